@@ -136,12 +136,7 @@ pub ring_more : (next prev next' prev' next'' prev'' : ℕ → ℕ) (places : �
     ((k : ℕ) → next' k ≡ cond (eqb k (prev 0)) x (next k)) → ((k : ℕ) → prev' k ≡ cond (eqb k x) (prev 0) (prev k)) →
     ((k : ℕ) → next'' k ≡ cond (eqb k x) 0 (next' k)) → ((k : ℕ) → prev'' k ≡ cond (eqb k 0) x (prev' k)) →
     x ≢ 0 → x < places → Every (λ k. k ≢ x) xs → IsRing next prev places xs → IsRing next'' prev'' places (xs ++ x ∷ [])
-ring_more next prev next' prev' next'' prev'' places xs x n p n' p' some inside new r = record {
-  joined = more next prev next'' prev'' 0 xs 0 x (λ k. n' k ∙ ap (cond (eqb k x) 0) (n k)) (λ k. p' k ∙ ap (cond (eqb k 0) x) (p k)) (λ e. some (sym e)) (λ e. some (sym e)) r.above r.above new r.differ r.joined;
-  differ = differ_more xs x r.differ new;
-  above = every_append (λ k. k ≢ 0) xs (x ∷ []) r.above (some, tt);
-  within = every_append (λ k. k < places) xs (x ∷ []) r.within (inside, tt);
-}
+ring_more next prev next' prev' next'' prev'' places xs x n p n' p' some inside new r = grind (arith, nat_tests, differ_more, every_append, more)
 
 -- a ring with a place less, after its neighbours were joined
 pub ring_less : (next prev next' prev' : ℕ → ℕ) (places : ℕ) (xs : List ℕ) (x : ℕ) →
@@ -156,16 +151,7 @@ ring_less next prev next' prev' places xs x n p m r = record {
 
 -- a ring whose links are read alike
 pub ring_same : (next prev next' prev' : ℕ → ℕ) (places more : ℕ) (xs : List ℕ) → ((k : ℕ) → next' k ≡ next k) → ((k : ℕ) → prev' k ≡ prev k) → places ≤ more → IsRing next prev places xs → IsRing next' prev' more xs
-ring_same next prev next' prev' places more xs n p le r = record {
-  joined = as_before next prev next' prev' 0 xs 0 (n 0) (all xs) (p 0) r.joined;
-  differ = r.differ;
-  above = r.above;
-  within = every_map (λ k. k < places) (λ k. k < more) (λ k l. omega arith) xs r.within;
-}
-  where
-    all : (ys : List ℕ) → Every (λ k. (next' k ≡ next k) × (prev' k ≡ prev k)) ys
-    all [] = tt
-    all (y ∷ ys) = ((n y, p y), all ys)
+ring_same next prev next' prev' places more xs n p le r = grind (arith, nat_tests, as_before, every_map)
 
 -- the neighbours of a place, and of the place 0, are places
 pub prev_inside : (next prev : ℕ → ℕ) (places : ℕ) (xs : List ℕ) (x : ℕ) → 0 < places → Contains xs x → IsRing next prev places xs → prev x < places

@@ -1,5 +1,5 @@
 -- What the order of keys says of their numbers.
-use Rattle.ordered_set.proofs.Words.{◌≡◌, ℕ, ◌<◌, ◌≤◌, suc, zero, true, false, List, [], ◌∷◌, Some, Ordering, Less, Equal, Greater, is_lt, nat_cmp, ◌⊎◌, inl, inr, refl, ap, ◌∙◌, subst, arith, length, slice_get, ◌-◌, Contains, Every, IsStrictlySortedBy, ordering_then, MatchOrdering, cases_Bool, cases_order, not-true, lt-ltb, ranked, Key, key_cmp, IsAscending, is_from, last_of}
+use Rattle.ordered_set.proofs.Words.{nat_tests, ◌≡◌, ℕ, ◌<◌, ◌≤◌, suc, zero, true, false, List, [], ◌∷◌, Some, Ordering, Less, Equal, Greater, nat_cmp, ◌⊎◌, inl, inr, refl, ap, ◌∙◌, subst, arith, length, slice_get, ◌-◌, Contains, Every, IsStrictlySortedBy, ordering_then, MatchOrdering, cases_Bool, cases_order, not-true, lt-ltb, ranked, Key, key_cmp, IsAscending, is_from, last_of}
 use Rattle.std.proofs.Common.{find}
 use Rattle.ordered_set.proofs.Sorted.{every_member, less_from_lt}
 use Rattle.ordered_set.proofs.Members.{contains_cases, contains_later}
@@ -10,12 +10,7 @@ rank m n r e = subst (λ o. MatchOrdering o (m < n) (m ≡ n) (n < m)) e (ranked
 -- a key comes before another by its major number, or at equal ones by its minor number
 pub less_parts : (a b : Key) → key_cmp a b ≡ Less → (a.major < b.major) ⊎ ((a.major ≡ b.major) × (a.minor < b.minor))
 unfolding key_cmp
-less_parts a b e = by (nat_cmp a.major b.major) refl e
-  where
-    by : (r : Ordering) → nat_cmp a.major b.major ≡ r → ordering_then r (nat_cmp a.minor b.minor) ≡ Less → (a.major < b.major) ⊎ ((a.major ≡ b.major) × (a.minor < b.minor))
-    by Less f h = inl (rank a.major b.major Less f)
-    by Equal f h = inr (rank a.major b.major Equal f, rank a.minor b.minor Less h)
-    by Greater f h = cc
+less_parts a b e = grind (arith, nat_tests)
 
 -- and the other way round
 pub less_from_parts : (a b : Key) → (a.major < b.major) ⊎ ((a.major ≡ b.major) × (a.minor < b.minor)) → key_cmp a b ≡ Less
@@ -36,19 +31,10 @@ abbrev pub start : ℕ → Key
 start major = record { major = major; minor = 0 }
 
 pub from_start : (k : Key) (major : ℕ) → is_from (start major) k ≡ true → major ≤ k.major
-from_start k major t = elim (cases_order k.major major) [
-  | inl e ↦ omega arith
-  | inr c ↦ elim c [
-    | inl l ↦ absurd (let below : is_lt (key_cmp k (start major)) ≡ true = ap is_lt (less_from_parts k (start major) (inl l)) in let f = not-true _ t in cc)
-    | inr g ↦ omega arith
-  ]
-]
+from_start k major t = grind (arith, nat_tests, cases_order, less_from_parts, not-true)
 
 pub start_from : (k : Key) (major : ℕ) → major ≤ k.major → is_from (start major) k ≡ true
-start_from k major le = elim (cases_Bool (is_lt (key_cmp k (start major)))) [
-  | inl t ↦ absurd (elim (less_parts k (start major) (less_from_lt _ t)) [ inl l ↦ omega arith | inr p ↦ omega (arith, p.1) ])
-  | inr f ↦ rw f
-]
+start_from k major le = grind (arith, nat_tests, cases_Bool, less_from_lt, less_parts)
 
 -- where some key has this major number, the first key from its start on has it too
 pub first_of : (ks : List Key) (major : ℕ) (x : Key) → IsAscending ks → Contains ks x → x.major ≡ major → (y : Key) × (find (is_from (start major)) ks ≡ Some y) × Contains ks y × (y.major ≡ major)

@@ -1,20 +1,19 @@
 -- An extent comes, or goes.
-use Rattle.part_book.proofs.Words.{◌≡◌, ◌≢◌, ℕ, ◌+◌, ◌-◌, ◌/◌, ◌^◌, ◌<◌, ◌≤◌, Bool, true, false, cond, eqb, ltb, ◌||◌, List, [], ◌∷◌, ◌++◌, map, filter, find, length, count_by, Option, Some, None, is_some, option_map, set_at, vec_len, vec_capacity, inl, inr, refl, sym, ap, ◌∙◌, subst, arith, All, length-append, Contains, option_to_list, nat_cmp, sum_by, not, IsSome, option_or, unsigned_tied, nat_cmp_total, cases_Bool, eq-eqb, false_from_ne_true, eqb-true, not-true, not_from_false, nat_tests, get_or-set_other, get_or-set_same, length-map, map-append, All-contains, All-filter, All-map, All-push, All-weaker, filter-append, find-append, count_by-le-length, length-filter, sum_by-append, sum_by-cons, sum_by_push, Part, Rest, ToDirty, ToMuzzy, ToRetained, State, Active, Dirty, Muzzy, Retained, Flight, IsPlaced, end_of, meets, has_page, is_listed, begins_at, is_in_flight, AgeList, Table, HasMore, leaves_for, CanList, GainsRow, CanUnlist, LosesRow, IsApart, IsKeyed, Row, first_key, is_edge, keys_with, listed_in, numbers_of, part_at, rank_of, ranked_key, row_at, size_key, with_edges, keys_without, without_edges, CanLower, HasListRoom, IsIndexed, IsListOf, IsSlotted, IsRowTable, KeepsExtents, parts_of, rows_of, IsRowAt, all_from, bit, count_some, find_none, map_has, map_same, count_less_one, count_kept, count_map, filter_all_of, filter_map_is, filter_none_of, filter_swap, find_kept, found, kept_length, only, sum_by-filter_both, filter_from, filter_has, Pages}
-use Rattle.part_book.proofs.Indexes.{IsLeafed, in_slot, in_slots, keeps, parts_in, edge_none, edge_part, edge_row, slot_of, small_numbers}
+use Rattle.part_book.proofs.Words.{CanEnter, GainsLists, HasEdges, HaveRows, KeepsOthers, Lists, LosesLists, lists_of, ◌≡◌, ◌≢◌, ℕ, ◌+◌, ◌-◌, ◌/◌, ◌^◌, ◌<◌, ◌≤◌, Bool, true, false, cond, eqb, ltb, ◌||◌, List, [], ◌∷◌, ◌++◌, filter, find, length, count_by, Option, Some, None, is_some, option_map, set_at, vec_len, vec_capacity, inl, inr, refl, sym, ap, ◌∙◌, subst, arith, All, length-append, Contains, option_to_list, nat_cmp, sum_by, not, IsSome, unsigned_tied, nat_cmp_total, cases_Bool, eq-eqb, false_from_ne_true, eqb-true, not-true, nat_tests, get_or-set_other, get_or-set_same, length-map, map-append, All-contains, All-filter, All-map, All-push, All-weaker, filter-append, find-append, count_by-le-length, length-filter, sum_by-append, sum_by-cons, sum_by_push, Part, Rest, ToDirty, ToMuzzy, ToRetained, IsPlaced, end_of, meets, has_page, is_listed, begins_at, is_in_flight, AgeList, Table, HasMore, leaves_for, CanList, GainsRow, CanUnlist, LosesRow, IsApart, IsKeyed, Row, first_key, is_edge, keys_with, listed_in, numbers_of, part_at, size_key, with_edges, keys_without, without_edges, CanLower, HasListRoom, IsListOf, IsSlotted, IsRowTable, KeepsExtents, parts_of, rows_of, IsRowAt, all_from, bit, count_some, find_none, map_has, count_less_one, count_kept, count_map, filter_all_of, filter_map_is, filter_none_of, filter_swap, find_kept, found, kept_length, only, sum_by-filter_both, filter_from, filter_has, Pages}
+use Rattle.part_book.proofs.Indexes.{IsLeafed, in_slots, keeps, parts_in, edge_none, edge_part, edge_row, slot_of, small_numbers}
 use Rattle.part_book.proofs.Keyed.{first_own, key_absent, keyed_more, size_own, keyed_less}
 use Rattle.part_book.proofs.Parts.{edge_has, begins_by_edge}
 use Rattle.part_book.proofs.Rowed.{apart_more, page_meets, pages_most, row_placed, apart_less, numbers_most, one_number, one_row, other_row, others, others_apart, others_begin}
 use Rattle.std.specs.FinMap as map_of
 
--- an extent with a number that no other has, and that meets no other
-pub record IsFresh (t : Table) (rows : List Row) (row : Row) : Type 0 where
+-- an extent with a number that no other has, and that meets no other, where there are so many slots
+pub record IsFresh (slots : ℕ) (rows : List Row) (row : Row) : Type 0 where
   pub placed : IsPlaced row.part.span
   pub apart : All (λ p. meets p.span row.part.span ≡ false) (parts_in rows)
-  pub number : (r : Row) → Contains rows r → r.number ≢ row.number
-  pub slot : row.number < vec_len t.slots
-  pub small : vec_len t.slots < 2 ^ 32
-  pub within : (r : Row) → Contains rows r → r.number < vec_len t.slots
-  pub few : length rows ≤ vec_len t.slots
+  pub others : (r : Row) → Contains rows r → (r.number ≢ row.number) × (r.number < slots)
+  pub slot : row.number < slots
+  pub small : slots < 2 ^ 32
+  pub few : length rows ≤ slots
 
 -- a slot that has no extent
 pub record IsUnused (t : Table) (n : ℕ) : Type 0 where
@@ -35,20 +34,19 @@ popped t front o number i free is =
     }
 
 -- and with it an extent that meets no other is fresh
-pub fresh : (t : Table) (part : Part) (front : List ℕ) (o : Option ℕ) (number : ℕ) → IsRowTable t (rows_of t) → t.free.items ≡ front ++ option_to_list o → o ≡ Some number →
-    IsPlaced part.span → All (λ p. meets p.span part.span ≡ false) (parts_of t) → IsFresh t (rows_of t) (record { number = number; part = part })
-fresh t part front o number i free is placed apart =
-    let unused = popped t front o number i free is in
-    let places = i.slots.places in
-    record {
-      placed = placed;
-      apart = apart;
-      number = unused.number;
-      slot = unused.slot;
-      small = i.slots.small;
-      within = λ r m. in_slots t (rows_of t) r i.slots m;
-      few = omega arith;
-    }
+pub fresh : (t : Table) (row : Row) → IsRowTable t (rows_of t) → IsUnused t row.number → IsPlaced row.part.span → All (λ p. meets p.span row.part.span ≡ false) (parts_of t) → IsFresh (vec_len t.slots) (rows_of t) row
+fresh t row i unused placed apart = record {
+  placed = placed;
+  apart = apart;
+  others = λ r m. (unused.number r m, in_slots t (rows_of t) r i.slots m);
+  slot = unused.slot;
+  small = i.slots.small;
+  few = omega (arith, i.slots.places);
+}
+
+-- the key that it has among the first pages is not there
+pub absent_first : (t : Table) (row : Row) → IsRowTable t (rows_of t) → IsUnused t row.number → Contains t.firsts.keys (record { major = row.part.span.first; minor = row.number }) → ⊥
+absent_first t row i unused m = key_absent first_key (rows_of t) row t.firsts.keys i.indexes.firsts (λ r k n a b. first_own r row k a b) unused.number m
 
 -- a page has the number of the extent whose first or last page it is
 pub edge_test : (p : Part) (page : ℕ) → IsPlaced p.span → is_edge page p ≡ (eqb page (end_of p.span - 1) || eqb page p.span.first)
@@ -71,15 +69,11 @@ more test rows row = grind (arith, filter-append test rows (row ∷ []))
 
 -- and so do their numbers
 more_numbers : (test : Row → Bool) (rows : List Row) (row : Row) → numbers_of (filter test (rows ++ row ∷ [])) ≡ numbers_of (filter test rows) ++ cond (test row) (row.number ∷ []) []
-more_numbers test rows row =
-    grind (arith, more test rows row, map-append (λ (r : Row). r.number) (filter test rows) (cond (test row) (row ∷ []) []))
+more_numbers test rows row = grind (arith, nat_tests, map-append, more)
 
 -- an extent is unused for one rest at most, and then it has a key
 pub one_rest : (row : Row) → bit (is_listed ToDirty row.part.state) + bit (is_listed ToMuzzy row.part.state) + bit (is_listed ToRetained row.part.state) ≡ bit (is_some (size_key row))
-one_rest row = by row.part.state
-  where
-    by : (s : State) → bit (is_listed ToDirty s) + bit (is_listed ToMuzzy s) + bit (is_listed ToRetained s) ≡ bit (is_some (option_map (ranked_key row) (rank_of s)))
-    by s = grind arith
+one_rest row = grind (arith, nat_tests)
 
 -- no more are unused than there are
 unused_most : (rows : List Row) → length (listed_in ToDirty rows) + length (listed_in ToMuzzy rows) + length (listed_in ToRetained rows) ≤ length rows
@@ -98,170 +92,105 @@ unused_most rows =
     counts (x ∷ xs) =
         omega (arith, counts xs, one_rest x, most (is_some (size_key x)), sum_by-cons (λ (r : Row). bit (is_listed ToDirty r.part.state)) x xs, sum_by-cons (λ (r : Row). bit (is_listed ToMuzzy r.part.state)) x xs, sum_by-cons (λ (r : Row). bit (is_listed ToRetained r.part.state)) x xs)
 
--- each index but that of the first pages has the extent besides
-pub record IsAdded (t u : Table) (row : Row) : Type 0 where
-  pub order : u.order.numbers ≡ t.order.numbers ++ row.number ∷ []
-  pub places : u.order.places ≡ t.order.places
-  pub dirty : GainsRow ToDirty t.dirty u.dirty row
-  pub muzzy : GainsRow ToMuzzy t.muzzy u.muzzy row
-  pub retained : GainsRow ToRetained t.retained u.retained row
-  pub flights : u.flights.items ≡ t.flights.items ++ cond (is_in_flight row.part.state) (row.number ∷ []) []
-  pub sizes : u.sizes.keys ≡ keys_with t.sizes.keys (size_key row)
-  pub numbers : (page : ℕ) → map_of.get u.edges.numbers page ≡ map_of.get (with_edges t.edges.numbers row.part.span row.number) page
-  pub chunks : HasMore t.edges.chunks u.edges.chunks row.part.span
-  pub slots : u.slots.items ≡ set_at t.slots.items row.number row.part
-  pub slots_len : vec_len u.slots ≡ vec_len t.slots
+-- the slots and the free numbers of a table whose extents are others
+pub slotted : (t u : Table) (rows now : List Row) → IsSlotted t rows → vec_len u.slots ≡ vec_len t.slots →
+    ((number : ℕ) → count_by (λ n. eqb n number) u.free.items + count_by (λ r. eqb r.number number) now ≡ count_by (λ n. eqb n number) t.free.items + count_by (λ r. eqb r.number number) rows) →
+    vec_len u.free + length now ≡ vec_len t.free + length rows → vec_capacity t.free ≤ vec_capacity u.free → IsSlotted u now
+slotted t u rows now i len free places room = record {
+  free = λ number. let test = ap (λ n. bit (ltb number n)) len in omega (arith, i.free number, free number);
+  places = omega (arith, i.places);
+  small = omega (arith, i.small);
+  room = omega (arith, i.room);
+}
 
-module _ (t : Table) (rows : List Row) (row : Row) (i : IsIndexed t rows) (f : IsFresh t rows row) where
-  -- ---- what the indexes ask of a new extent
+-- ---- one more extent
 
+module _ (rows : List Row) (row : Row) (slots : ℕ) (f : IsFresh slots rows row) where
   -- no extent among some has its number
-  pub new_number : (test : Row → Bool) → All (λ n. n ≢ row.number) (numbers_of (filter test rows))
-  new_number test = All-map (λ n. n ≢ row.number) (λ r. r.number) (filter test rows) (All-filter test (λ r. r.number ≢ row.number) rows (all_from (λ r. r.number ≢ row.number) rows f.number))
-
-  new_of_all : All (λ n. n ≢ row.number) (numbers_of rows)
-  new_of_all = All-map (λ n. n ≢ row.number) (λ r. r.number) rows (all_from (λ r. r.number ≢ row.number) rows f.number)
+  new_number : (test : Row → Bool) → All (λ n. n ≢ row.number) (numbers_of (filter test rows))
+  new_number test = All-map (λ n. n ≢ row.number) (λ r. r.number) (filter test rows) (All-filter test (λ r. r.number ≢ row.number) rows (all_from (λ r. r.number ≢ row.number) rows (λ r m. (f.others r m).0)))
 
   -- the list of a rest has a place for it, and its pages can be counted
-  can_list : (rest : Rest) (list : AgeList) → IsListOf rest list (vec_len t.slots) rows → CanList list row
-  can_list rest list l =
-      let test : Row → Bool = λ r. is_listed rest r.part.state in
-      let most = pages_most rest rows i.apart in
+  can_list : IsApart (parts_in rows) → (rest : Rest) (list : AgeList) → IsListOf rest list slots rows → CanList list row
+  can_list apart rest list l =
+      let most = pages_most rest rows apart in
       let few = f.few in
       let small = f.small in
-      let slot = f.slot in
       let own = f.placed in
       record {
-        place = omega (arith, l.places);
-        new_number = rw l.numbers (new_number test);
+        place = omega (arith, l.places, f.slot);
+        new_number = rw l.numbers (new_number (λ r. is_listed rest r.part.state));
         fits = omega (arith, l.pages);
       }
 
-  -- its key is not among the first pages
-  pub absent_first : Contains t.firsts.keys (record { major = row.part.span.first; minor = row.number }) → ⊥
-  absent_first m = key_absent first_key rows row t.firsts.keys i.firsts (λ r k n a b. first_own r row k a b) f.number m
-
   -- so the lists take it
-  pub can_lower : HasListRoom t 1 → CanLower t row
-  can_lower room =
+  pub can_enter : (t : Table) (more : ℕ) → IsApart (parts_in rows) → HaveRows (lists_of t) slots rows → HasListRoom t more → length t.order.numbers + more ≡ length rows + 1 → CanEnter t row
+  can_enter t more apart l room all =
       let in_flight : Row → Bool = λ r. is_in_flight r.part.state in
-      let all = ap length i.order ∙ length-map rows (λ r. r.number) in
-      let d = ap length i.dirty.numbers ∙ length-map (listed_in ToDirty rows) (λ r. r.number) in
-      let m = ap length i.muzzy.numbers ∙ length-map (listed_in ToMuzzy rows) (λ r. r.number) in
-      let e = ap length i.retained.numbers ∙ length-map (listed_in ToRetained rows) (λ r. r.number) in
-      let flown = ap length i.flights ∙ length-map (filter in_flight rows) (λ r. r.number) in
+      let d = ap length l.dirty.numbers ∙ length-map (listed_in ToDirty rows) (λ r. r.number) in
+      let m = ap length l.muzzy.numbers ∙ length-map (listed_in ToMuzzy rows) (λ r. r.number) in
+      let e = ap length l.retained.numbers ∙ length-map (listed_in ToRetained rows) (λ r. r.number) in
+      let flown = ap length l.flights ∙ length-map (filter in_flight rows) (λ r. r.number) in
       let small = f.small in
       let slot = f.slot in
       record {
-        place = omega (arith, i.places);
-        new_number = rw i.order new_of_all;
-        lists = record {
-          placed = f.placed;
-          dirty = can_list ToDirty t.dirty i.dirty;
-          muzzy = can_list ToMuzzy t.muzzy i.muzzy;
-          retained = can_list ToRetained t.retained i.retained;
-          sizes = λ _. omega (arith, unused_most rows, room.sizes);
-          absent = key_absent size_key rows row t.sizes.keys i.sizes (λ r k n a b. size_own r row k (let l = f.within r n in omega arith) (omega arith) a b) f.number;
-          flights = omega (arith, t.flights.ok.0, room.flights, length-filter in_flight rows, count_by-le-length in_flight rows);
-        };
+        placed = f.placed;
+        dirty = can_list apart ToDirty t.dirty l.dirty;
+        muzzy = can_list apart ToMuzzy t.muzzy l.muzzy;
+        retained = can_list apart ToRetained t.retained l.retained;
+        sizes = λ _. omega (arith, unused_most rows, room.sizes);
+        absent = key_absent size_key rows row t.sizes.keys l.sizes (λ r k n a b. size_own r row k (let low = (f.others r n).1 in omega arith) (omega arith) a b) (λ r n. (f.others r n).0);
+        flights = omega (arith, t.flights.ok.0, room.flights, length-filter in_flight rows, count_by-le-length in_flight rows);
       }
 
-  -- ---- the table afterwards
+  -- and so does the order
+  pub can_lower : (t : Table) → t.order.numbers ≡ numbers_of rows → slots ≤ t.order.places → IsApart (parts_in rows) → HaveRows (lists_of t) slots rows → HasListRoom t 1 → CanLower t row
+  can_lower t order places apart l room = record {
+    place = omega (arith, f.slot);
+    new_number = rw order (All-map (λ n. n ≢ row.number) (λ r. r.number) rows (all_from (λ r. r.number ≢ row.number) rows (λ r m. (f.others r m).0)));
+    lists = can_enter t 1 apart l room (omega (arith, ap length order, length-map rows (λ r. r.number)));
+  }
 
   -- a list of a rest gets its number and its pages if it is listed there
-  listed_more : (rest : Rest) (old new : AgeList) → IsListOf rest old (vec_len t.slots) rows → GainsRow rest old new row → IsListOf rest new (vec_len t.slots) (rows ++ row ∷ [])
-  listed_more rest old new l g =
-      let test : Row → Bool = λ r. is_listed rest r.part.state in
-      let pages : Row → ℕ = λ r. r.part.span.pages in
-      let sum = ap (sum_by pages) (more test rows row) ∙ sum_by-append pages (filter test rows) (cond (test row) (row ∷ []) []) in
-      record {
-        numbers = g.numbers ∙ ap (λ ns. ns ++ cond (test row) (row.number ∷ []) []) l.numbers ∙ sym (more_numbers test rows row);
-        pages = omega (arith, sum, g.pages, l.pages, one (test row));
-        places = omega (arith, g.places, l.places);
-      }
-    where
-      one : (b : Bool) → sum_by (λ (r : Row). r.part.span.pages) (cond b (row ∷ []) []) ≡ cond b row.part.span.pages 0
-      one true = omega (arith, sum_by-cons (λ (r : Row). r.part.span.pages) row [])
-      one false = refl
+  listed_more : (rest : Rest) (old new : AgeList) → IsListOf rest old slots rows → GainsRow rest old new row → IsListOf rest new slots (rows ++ row ∷ [])
+  listed_more rest old new l g = grind (arith, nat_tests, more, more_numbers, sum_by-append, sum_by-cons)
+
+  -- the lists have it besides
+  pub lists_more : (l k : Lists) → HaveRows l slots rows → GainsLists l k row → HaveRows k slots (rows ++ row ∷ [])
+  lists_more l k has g = record {
+    dirty = listed_more ToDirty l.dirty k.dirty has.dirty g.dirty;
+    muzzy = listed_more ToMuzzy l.muzzy k.muzzy has.muzzy g.muzzy;
+    retained = listed_more ToRetained l.retained k.retained has.retained g.retained;
+    flights = g.flights ∙ ap (λ ns. ns ++ cond (is_in_flight row.part.state) (row.number ∷ []) []) has.flights ∙ sym (more_numbers (λ r. is_in_flight r.part.state) rows row);
+    sizes = subst (IsKeyed size_key (rows ++ row ∷ [])) (sym g.sizes) (keyed_more size_key rows row l.sizes has.sizes);
+  }
 
   -- its first and its last page get its number
-  edges_more : (page : ℕ) → map_of.get (with_edges t.edges.numbers row.part.span row.number) page ≡ option_map (λ r. r.number) (find (λ r. is_edge page r.part) (rows ++ row ∷ []))
-  edges_more page =
-      numbers_more t.edges.numbers row.part row.number page f.placed
-      ∙ elim (cases_Bool (is_edge page row.part)) [
-        | inl e ↦
-            let none = find_none (λ r. is_edge page r.part) rows (λ r m. false_from_ne_true (is_edge page r.part) (λ g.
-            let met = page_meets r.part row.part page (edge_has r.part page (row_placed rows r i.apart m) g) (edge_has row.part page f.placed e) in
-            let no_met = All-contains (λ p. meets p.span row.part.span ≡ false) (parts_in rows) r.part f.apart (map_has (λ x. x.part) rows r m) in cc)) in
-            rw (e, find-append (λ r. is_edge page r.part) rows (row ∷ []), none, e) refl
-        | inr g ↦ grind (arith, find-append (λ r. is_edge page r.part) rows (row ∷ []), i.edges page, g)
-      ]
+  pub edges_more : (e u : Pages) → IsApart (parts_in rows) → HasEdges e rows → ((page : ℕ) → map_of.get u.numbers page ≡ map_of.get (with_edges e.numbers row.part.span row.number) page) → HasMore e.chunks u.chunks row.part.span → HasEdges u (rows ++ row ∷ [])
+  edges_more e u apart has numbers chunks = record {
+    numbers = λ page.
+        numbers page ∙ numbers_more e.numbers row.part row.number page f.placed
+        ∙ elim (cases_Bool (is_edge page row.part)) [
+          | inl t ↦
+              let none = find_none (λ r. is_edge page r.part) rows (λ r m. false_from_ne_true (is_edge page r.part) (λ g.
+              let met = page_meets r.part row.part page (edge_has r.part page (row_placed rows r apart m) g) (edge_has row.part page f.placed t) in
+              let no_met = All-contains (λ p. meets p.span row.part.span ≡ false) (parts_in rows) r.part f.apart (map_has (λ x. x.part) rows r m) in cc)) in
+              rw (t, find-append (λ r. is_edge page r.part) rows (row ∷ []), none, t) refl
+          | inr g ↦ grind (arith, find-append (λ r. is_edge page r.part) rows (row ∷ []), has.numbers page, g)
+        ];
+    leaves = All-push (IsLeafed u.chunks) rows row (All-weaker (IsLeafed e.chunks) (IsLeafed u.chunks) (λ r l. (chunks.kept (r.part.span.first / 512) l.0, chunks.kept ((end_of r.part.span - 1) / 512) l.1)) rows has.leaves) (chunks.first, chunks.last);
+  }
 
-  -- a slot that isn't the new one is as it was
-  pub slot_kept : (u : Table) (n : ℕ) → u.slots.items ≡ set_at t.slots.items row.number row.part → n ≢ row.number → part_at u.slots.items n ≡ part_at t.slots.items n
-  slot_kept u n e ne = rw e (get_or-set_other t.slots.items row.number n row.part _ ne)
+  -- no two share a page
+  pub parts_more : IsApart (parts_in rows) → IsApart (parts_in (rows ++ row ∷ []))
+  parts_more apart = subst IsApart (sym (map-append (λ r. r.part) rows (row ∷ []))) (apart_more (parts_in rows) row.part apart f.placed f.apart)
 
-  -- and the new one has the extent
-  slot_new : (u : Table) → u.slots.items ≡ set_at t.slots.items row.number row.part → part_at u.slots.items row.number ≡ row.part
-  slot_new u e = let slot = f.slot in rw e (get_or-set_same t.slots.items row.number row.part _ (omega (arith, t.slots.ok.0)))
-
-  -- each index has what it shall have
-  pub added : (u : Table) → IsAdded t u row → IsKeyed first_key (rows ++ row ∷ []) u.firsts.keys → IsIndexed u (rows ++ row ∷ [])
-  added u a firsts =
-      let leafed : (r : Row) → IsLeafed t.edges.chunks r → IsLeafed u.edges.chunks r = λ r l. (a.chunks.kept (r.part.span.first / 512) l.0, a.chunks.kept ((end_of r.part.span - 1) / 512) l.1) in
-      let slotted : (r : Row) → Contains rows r → part_at u.slots.items r.number ≡ r.part = λ r m. slot_kept u r.number a.slots (f.number r m) ∙ in_slot t rows r i m in
-      let len : vec_len t.slots ≡ vec_len u.slots = sym a.slots_len in
-      record {
-        apart = subst IsApart (sym (map-append (λ r. r.part) rows (row ∷ []))) (apart_more (parts_in rows) row.part i.apart f.placed f.apart);
-        order = a.order ∙ ap (λ ns. ns ++ row.number ∷ []) i.order ∙ sym (map-append (λ r. r.number) rows (row ∷ []));
-        places = omega (arith, a.places);
-        dirty = rw len at (listed_more ToDirty t.dirty u.dirty i.dirty a.dirty);
-        muzzy = rw len at (listed_more ToMuzzy t.muzzy u.muzzy i.muzzy a.muzzy);
-        retained = rw len at (listed_more ToRetained t.retained u.retained i.retained a.retained);
-        flights = a.flights ∙ ap (λ ns. ns ++ cond (is_in_flight row.part.state) (row.number ∷ []) []) i.flights ∙ sym (more_numbers (λ r. is_in_flight r.part.state) rows row);
-        firsts = firsts;
-        sizes = subst (IsKeyed size_key (rows ++ row ∷ [])) (sym a.sizes) (keyed_more size_key rows row t.sizes.keys i.sizes);
-        edges = λ page. a.numbers page ∙ edges_more page;
-        leaves = All-push (IsLeafed u.edges.chunks) rows row (All-weaker (IsLeafed t.edges.chunks) (IsLeafed u.edges.chunks) leafed rows i.leaves) (a.chunks.first, a.chunks.last);
-        slots = All-push (λ r. part_at u.slots.items r.number ≡ r.part) rows row (all_from (λ r. part_at u.slots.items r.number ≡ r.part) rows slotted) (slot_new u a.slots);
-      }
-
-  -- ---- in the words of a table
-
-  -- the extents are those that were, and the new one
-  pub rows_added : (u : Table) → rows_of t ≡ rows → IsAdded t u row → rows_of u ≡ rows ++ row ∷ []
-  unfolding rows_of
-  rows_added u e a =
-      let put : ℕ → Part → Row = λ n p. record { number = n; part = p } in
-      let kept = map_same (row_at u.slots.items) (row_at t.slots.items) t.order.numbers (λ n m. ap (put n) (slot_kept u n a.slots (f.number (row_at t.slots.items n) (subst (λ rs. Contains rs (row_at t.slots.items n)) e (map_has (row_at t.slots.items) t.order.numbers n m))))) in
-      ap (map (row_at u.slots.items)) a.order
-      ∙ map-append (row_at u.slots.items) t.order.numbers (row.number ∷ [])
-      ∙ ap (λ xs. xs ++ row_at u.slots.items row.number ∷ []) (kept ∙ e)
-      ∙ ap (λ p. rows ++ put row.number p ∷ []) (slot_new u a.slots)
-
--- the number of an extent that was added is free no more
-free_more : (t u : Table) (rows : List Row) (row : Row) → IsSlotted t rows → t.free.items ≡ u.free.items ++ row.number ∷ [] → vec_len u.slots ≡ vec_len t.slots → vec_len u.free + 1 ≡ vec_len t.free → vec_capacity t.free ≤ vec_capacity u.free → IsSlotted u (rows ++ row ∷ [])
-free_more t u rows row i free slots_len free_len room =
-    record {
-      free = λ number.
-          let all = i.free number in
-          let old = ap (count_by (λ n. eqb n number)) free ∙ sum_by_push (λ n. bit (eqb n number)) u.free.items row.number in
-          let new = sum_by_push (λ r. bit (eqb r.number number)) rows row in
-          let len = ap (λ n. bit (ltb number n)) slots_len in
-          omega arith;
-      places = omega (arith, length-append rows (row ∷ []));
-      small = omega arith;
-      room = omega arith;
-    }
-
--- so the table keeps its extents and that one
-pub table_added : (t u : Table) (row : Row) → IsRowTable t (rows_of t) → IsFresh t (rows_of t) row → IsAdded t u row → u.firsts.keys ≡ keys_with t.firsts.keys (first_key row) →
-    t.free.items ≡ u.free.items ++ row.number ∷ [] → vec_len u.free + 1 ≡ vec_len t.free → vec_capacity t.free ≤ vec_capacity u.free → KeepsExtents u (parts_of t ++ row.part ∷ [])
-table_added t u row i f a firsts free free_len room =
-    let rows = rows_of t in
-    let key = subst (IsKeyed first_key (rows ++ row ∷ [])) (sym firsts) (keyed_more first_key rows row t.firsts.keys i.indexes.firsts) in
-    subst (KeepsExtents u) (map-append (λ r. r.part) rows (row ∷ [])) (keeps u (rows ++ row ∷ []) (rows_added t rows row i.indexes f u refl a)
-    (record { indexes = added t rows row i.indexes f u a key; slots = free_more t u rows row i.slots free a.slots_len free_len room }))
+  -- the slots have it if it was put there
+  pub slots_more : (old new : List Part) → slots ≤ length old → new ≡ set_at old row.number row.part → All (λ r. part_at old r.number ≡ r.part) rows → All (λ r. part_at new r.number ≡ r.part) (rows ++ row ∷ [])
+  slots_more old new le e all =
+      All-push (λ r. part_at new r.number ≡ r.part) rows row
+      (all_from (λ r. part_at new r.number ≡ r.part) rows (λ r m. rw e (get_or-set_other old row.number r.number row.part _ (f.others r m).0) ∙ All-contains (λ r. part_at old r.number ≡ r.part) rows r all m))
+      (let slot = f.slot in rw e (get_or-set_same old row.number row.part _ (omega arith)))
 
 -- ---- the extent that begins at a page
 
@@ -275,15 +204,7 @@ some_number t first (Some number) i some e = refl
 -- the slot of that number has the extent
 pub row_read : (t : Table) (first number : ℕ) → IsRowTable t (rows_of t) → IsSome (find (begins_at first) (parts_of t)) →
     map_of.get t.edges.numbers first ≡ Some number → IsRowAt t first (record { number = number; part = part_at t.slots.items number })
-row_read t first number i some e =
-    let r = edge_row t (rows_of t) first number i e in
-    let part = sym (slot_of t (rows_of t) r.0 i r.2 r.3).1 in
-    let row : r.0 ≡ record { number = number; part = part_at t.slots.items number } = λ k. record { number = r.3 k; part = part k } in
-    let closer = begins_by_edge (parts_of t) first i.indexes.apart _ (edge_part t (rows_of t) first number i e) in
-    record {
-      there = subst (Contains (rows_of t)) row r.2;
-      found = grind (arith, closer, some);
-    }
+row_read t first number i some e = grind (arith, nat_tests, begins_by_edge, edge_part, edge_row, slot_of)
 
 -- it begins there
 pub row_first : (t : Table) (first : ℕ) (row : Row) → IsRowAt t first row → row.part.span.first ≡ first
@@ -295,28 +216,7 @@ row_apart t first row i at =
     subst (All (λ p. meets p.span row.part.span ≡ false)) (others_begin t (rows_of t) row first i at.there (found (begins_at first) (parts_of t) row.part at.found).1)
     (others_apart t (rows_of t) row i at.there)
 
--- ---- the table afterwards
-
--- each index of the second table lacks the extent
-pub record IsRemoved (t u : Table) (row : Row) : Type 0 where
-  pub order : u.order.numbers ≡ filter (λ n. not (eqb n row.number)) t.order.numbers
-  pub places : u.order.places ≡ t.order.places
-  pub dirty : LosesRow ToDirty t.dirty u.dirty row
-  pub muzzy : LosesRow ToMuzzy t.muzzy u.muzzy row
-  pub retained : LosesRow ToRetained t.retained u.retained row
-  pub flights : u.flights.items ≡ cond (is_in_flight row.part.state) (filter (λ n. not (eqb n row.number)) t.flights.items) t.flights.items
-  pub firsts : u.firsts.keys ≡ keys_without t.firsts.keys (first_key row)
-  pub sizes : u.sizes.keys ≡ keys_without t.sizes.keys (size_key row)
-  pub numbers : u.edges.numbers ≡ without_edges t.edges.numbers row.part.span
-  pub chunks : u.edges.chunks ≡ t.edges.chunks
-  pub slots : u.slots ≡ t.slots
-
--- the extents are those with another number
-pub rows_removed : (t u : Table) (number : ℕ) → u.slots ≡ t.slots → u.order.numbers ≡ filter (λ n. not (eqb n number)) t.order.numbers → rows_of u ≡ others number (rows_of t)
-unfolding rows_of
-rows_removed t u number slots order =
-    ap (λ v. map (row_at v.items) u.order.numbers) slots ∙ ap (map (row_at t.slots.items)) order
-    ∙ sym (filter_map_is (row_at t.slots.items) (λ r. not (eqb r.number number)) t.order.numbers)
+-- ---- one extent less
 
 -- a page has no number where it was the first or the last one of the extent
 pub numbers_less : (m : map_of.FinMap nat_cmp ℕ) (p : Part) (page : ℕ) → IsPlaced p.span → map_of.get (without_edges m p.span) page ≡ cond (is_edge page p) None (map_of.get m page)
@@ -395,22 +295,44 @@ module _ (t : Table) (rows : List Row) (row : Row) (i : IsRowTable t rows) (m : 
         places = omega (arith, l.places, lost.places);
       }
 
+  -- the lists lack it
+  pub lists_less : (k : Lists) → LosesLists (lists_of t) k row → HaveRows k (vec_len t.slots) (others row.number rows)
+  lists_less k lost =
+      let l = i.indexes.lists in
+      record {
+        dirty = listed_less ToDirty t.dirty k.dirty l.dirty lost.dirty;
+        muzzy = listed_less ToMuzzy t.muzzy k.muzzy l.muzzy lost.muzzy;
+        retained = listed_less ToRetained t.retained k.retained l.retained lost.retained;
+        flights = lost.flights ∙ ap (λ ns. cond (is_in_flight row.part.state) (filter (λ n. not (eqb n row.number)) ns) ns) l.flights ∙ sym (less (λ r. is_in_flight r.part.state));
+        sizes = subst (IsKeyed size_key (others row.number rows)) (sym lost.sizes) (keyed_less size_key rows row t.sizes.keys l.sizes m one (λ r k n e f. size_own r row k (small_numbers t rows i.slots r n) (small_numbers t rows i.slots row m) e f));
+      }
+
+  -- and so does the order
+  pub order_less : (numbers : List ℕ) → numbers ≡ filter (λ n. not (eqb n row.number)) t.order.numbers → numbers ≡ numbers_of (others row.number rows)
+  order_less numbers e = e ∙ ap (filter (λ n. not (eqb n row.number))) i.indexes.order ∙ filter_map_is (λ r. r.number) (λ n. not (eqb n row.number)) rows
+
   -- its first and its last page have no number
-  edges_less : (page : ℕ) → map_of.get (without_edges t.edges.numbers row.part.span) page ≡ option_map (λ r. r.number) (find (λ r. is_edge page r.part) (others row.number rows))
-  edges_less page =
-      numbers_less t.edges.numbers row.part page (row_placed rows row i.indexes.apart m)
-      ∙ elim (cases_Bool (is_edge page row.part)) [
-        | inl e ↦ rw (
-          e,
-          find_none (λ r. is_edge page r.part) (others row.number rows) (λ r n. false_from_ne_true (is_edge page r.part) (λ g.
-              let o = other_row row.number rows r n in
-              let has : (x : Row) → Contains rows x → is_edge page x.part ≡ true → has_page page x.part.span ≡ true = λ x k. edge_has x.part page (row_placed rows x i.indexes.apart k) in
-              let same = one_row rows i.indexes.apart page row r m o.0 (has row m e) (has r o.0 g) in
-              let is = eq-eqb r.number row.number (ap (λ (x : Row). x.number) same) in
-              let no : true ≡ false = sym is ∙ o.1 in cc)),
-        ) refl
-        | inr f ↦ rw f (i.indexes.edges page ∙ ap (option_map (λ r. r.number)) (sym (find_kept (λ r. is_edge page r.part) (λ r. not (eqb r.number row.number)) rows (λ r n g. differs (λ x. is_edge page x.part) r n g f))))
-      ]
+  pub edges_less : (u : Pages) → u.numbers ≡ without_edges t.edges.numbers row.part.span → u.chunks ≡ t.edges.chunks → HasEdges u (others row.number rows)
+  edges_less u numbers chunks = record {
+    numbers = λ page.
+        ap (λ n. map_of.get n page) numbers
+        ∙ numbers_less t.edges.numbers row.part page (row_placed rows row i.indexes.apart m)
+        ∙ elim (cases_Bool (is_edge page row.part)) [
+          | inl e ↦ rw (
+            e,
+            find_none (λ r. is_edge page r.part) (others row.number rows) (λ r n. false_from_ne_true (is_edge page r.part) (λ g.
+                let o = other_row row.number rows r n in
+                let has : (x : Row) → Contains rows x → is_edge page x.part ≡ true → has_page page x.part.span ≡ true = λ x k. edge_has x.part page (row_placed rows x i.indexes.apart k) in
+                o.1 (ap (λ (x : Row). x.number) (one_row rows i.indexes.apart page row r m o.0 (has row m e) (has r o.0 g))))),
+          ) refl
+          | inr f ↦ rw f (i.indexes.edges.numbers page ∙ ap (option_map (λ r. r.number)) (sym (find_kept (λ r. is_edge page r.part) (λ r. not (eqb r.number row.number)) rows (λ r n g. differs (λ x. is_edge page x.part) r n g f))))
+        ];
+    leaves = subst (λ chunks. All (IsLeafed chunks) (others row.number rows)) (sym chunks) (All-filter (λ r. not (eqb r.number row.number)) (IsLeafed t.edges.chunks) rows i.indexes.edges.leaves);
+  }
+
+  -- the slots have the others
+  pub slots_less : All (λ r. part_at t.slots.items r.number ≡ r.part) (others row.number rows)
+  slots_less = All-filter (λ r. not (eqb r.number row.number)) (λ r. part_at t.slots.items r.number ≡ r.part) rows i.indexes.slots
 
   -- how many extents are left
   pub fewer : length (others row.number rows) + 1 ≡ length rows
@@ -424,67 +346,83 @@ module _ (t : Table) (rows : List Row) (row : Row) (i : IsRowTable t rows) (m : 
   pub count_fewer : (number : ℕ) → count_by (λ r. eqb r.number number) (others row.number rows) + bit (eqb row.number number) ≡ count_by (λ r. eqb r.number number) rows
   count_fewer number = count_less_one (λ r. eqb r.number row.number) (λ r. eqb r.number number) rows row m (eq-eqb row.number row.number refl) (numbers_most t rows row.number i.slots)
 
-  -- each index has what it shall have
-  pub removed : (u : Table) → IsRemoved t u row → IsIndexed u (others row.number rows)
-  removed u a =
-      let len : vec_len t.slots ≡ vec_len u.slots = ap (λ v. vec_len v) (sym a.slots) in
-      let x = i.indexes in
-      let places = x.places in
-      record {
-        apart = apart_less row.number rows x.apart;
-        order = a.order ∙ ap (filter (λ n. not (eqb n row.number))) x.order ∙ filter_map_is (λ r. r.number) (λ n. not (eqb n row.number)) rows;
-        places = omega (arith, a.places);
-        dirty = rw len at (listed_less ToDirty t.dirty u.dirty x.dirty a.dirty);
-        muzzy = rw len at (listed_less ToMuzzy t.muzzy u.muzzy x.muzzy a.muzzy);
-        retained = rw len at (listed_less ToRetained t.retained u.retained x.retained a.retained);
-        flights = a.flights ∙ ap (λ ns. cond (is_in_flight row.part.state) (filter (λ n. not (eqb n row.number)) ns) ns) x.flights ∙ sym (less (λ r. is_in_flight r.part.state));
-        firsts = subst (IsKeyed first_key (others row.number rows)) (sym a.firsts) (keyed_less first_key rows row t.firsts.keys x.firsts m one (λ r k n e f. first_own r row k e f));
-        sizes = subst (IsKeyed size_key (others row.number rows)) (sym a.sizes) (keyed_less size_key rows row t.sizes.keys x.sizes m one (λ r k n e f. size_own r row k (small_numbers t rows i.slots r n) (small_numbers t rows i.slots row m) e f));
-        edges = λ page. ap (λ n. map_of.get n page) a.numbers ∙ edges_less page;
-        leaves = subst (λ chunks. All (IsLeafed chunks) (others row.number rows)) (sym a.chunks) (All-filter (λ r. not (eqb r.number row.number)) (IsLeafed t.edges.chunks) rows x.leaves);
-        slots = subst (λ v. All (λ r. part_at v.items r.number ≡ r.part) (others row.number rows)) (sym a.slots) (All-filter (λ r. not (eqb r.number row.number)) (λ r. part_at t.slots.items r.number ≡ r.part) rows x.slots);
-      }
-
--- the number of an extent that was taken is free
-free_less : (t u : Table) (rows : List Row) (row : Row) → IsRowTable t rows → Contains rows row → u.slots ≡ t.slots → u.free.items ≡ t.free.items ++ row.number ∷ [] → vec_len u.free ≡ vec_len t.free + 1 → vec_capacity t.free ≤ vec_capacity u.free → IsSlotted u (others row.number rows)
-free_less t u rows row i m slots free free_len room =
-    let len = ap (λ v. vec_len v) slots in
-    record {
-      free = λ number.
-          let count = i.slots.free number in
-          let new = ap (count_by (λ n. eqb n number)) free ∙ sum_by_push (λ n. bit (eqb n number)) t.free.items row.number in
-          let rest = count_fewer t rows row i m number in
-          let same = ap (λ n. bit (ltb number n)) len in
-          omega arith;
-      places = omega (arith, fewer t rows row i m);
-      small = omega arith;
-      room = omega arith;
-    }
+  -- an extent is fresh among the others
+  pub fresh_again : (x : Row) → IsPlaced x.part.span → All (λ p. meets p.span x.part.span ≡ false) (parts_in (others row.number rows)) → x.number < vec_len t.slots → ((r : Row) → Contains (others row.number rows) r → r.number ≢ x.number) → IsFresh (vec_len t.slots) (others row.number rows) x
+  fresh_again x placed apart slot other = record {
+    placed = placed;
+    apart = apart;
+    others = λ r n. (other r n, in_slots t rows r i.slots (other_row row.number rows r n).0);
+    slot = slot;
+    small = i.slots.small;
+    few = omega (arith, fewer, i.slots.places);
+  }
 
 -- ---- in the words of a table
 
--- so the table keeps those that begin elsewhere
-pub table_removed : (t u : Table) (row : Row) (first : ℕ) → IsRowTable t (rows_of t) → IsRowAt t first row → IsRemoved t u row → u.free.items ≡ t.free.items ++ row.number ∷ [] → vec_len u.free ≡ vec_len t.free + 1 → vec_capacity t.free ≤ vec_capacity u.free → KeepsExtents u (filter (λ p. not (begins_at first p)) (parts_of t))
-table_removed t u row first i at a free free_len room =
-    let begins = (found (begins_at first) (parts_of t) row.part at.found).1 in
-    subst (KeepsExtents u) (others_begin t (rows_of t) row first i at.there begins) (keeps u (others row.number (rows_of t)) (rows_removed t u row.number a.slots a.order)
-    (record { indexes = removed t (rows_of t) row i at.there u a; slots = free_less t u (rows_of t) row i at.there a.slots free free_len room }))
+-- with an extent that was put on, the table keeps its extents and that one
+pub table_added : (t s u : Table) (row : Row) → IsRowTable t (rows_of t) → IsUnused t row.number → IsPlaced row.part.span → All (λ p. meets p.span row.part.span ≡ false) (parts_of t) →
+    u.order.numbers ≡ t.order.numbers ++ row.number ∷ [] → u.order.places ≡ t.order.places → GainsLists (lists_of t) (lists_of u) row → KeepsOthers s u →
+    s.firsts.keys ≡ keys_with t.firsts.keys (first_key row) → s.edges.numbers ≡ with_edges t.edges.numbers row.part.span row.number → HasMore t.edges.chunks s.edges.chunks row.part.span →
+    s.slots.items ≡ set_at t.slots.items row.number row.part → vec_len s.slots ≡ vec_len t.slots → t.free.items ≡ s.free.items ++ row.number ∷ [] → vec_len s.free + 1 ≡ vec_len t.free → vec_capacity t.free ≤ vec_capacity s.free →
+    KeepsExtents u (parts_of t ++ row.part ∷ [])
+table_added t s u row i unused placed apart order places lists kept firsts numbers chunks slots slots_len free free_len room =
+    let rows = rows_of t in
+    let x = i.indexes in
+    let f = fresh t row i unused placed apart in
+    let len : vec_len t.slots ≡ vec_len u.slots = sym (ap (λ v. vec_len v) kept.slots ∙ slots_len) in
+    let all = x.places in
+    let left = ap (λ v. vec_len v) kept.free in
+    let more = ap (λ v. vec_capacity v) kept.free in
+    subst (KeepsExtents u) (map-append (λ r. r.part) rows (row ∷ [])) (keeps u (rows ++ row ∷ []) (record {
+      indexes = record {
+        apart = parts_more rows row (vec_len t.slots) f x.apart;
+        order = order ∙ ap (λ ns. ns ++ row.number ∷ []) x.order ∙ sym (map-append (λ r. r.number) rows (row ∷ []));
+        places = omega arith;
+        lists = subst (λ n. HaveRows (lists_of u) n (rows ++ row ∷ [])) len (lists_more rows row (vec_len t.slots) f (lists_of t) (lists_of u) x.lists lists);
+        firsts = subst (IsKeyed first_key (rows ++ row ∷ [])) (sym (ap (λ k. k.keys) kept.firsts ∙ firsts)) (keyed_more first_key rows row t.firsts.keys x.firsts);
+        edges = subst (λ (e : Pages). HasEdges e (rows ++ row ∷ [])) (sym kept.edges) (edges_more rows row (vec_len t.slots) f t.edges s.edges x.apart x.edges (λ page. ap (λ m. map_of.get m page) numbers) chunks);
+        slots = slots_more rows row (vec_len t.slots) f t.slots.items u.slots.items (omega (arith, t.slots.ok.0)) (ap (λ v. v.items) kept.slots ∙ slots) x.slots;
+      };
+      slots = slotted t u rows (rows ++ row ∷ []) i.slots (sym len) (λ number.
+          let old = ap (count_by (λ n. eqb n number)) (free ∙ ap (λ v. v.items ++ row.number ∷ []) (sym kept.free)) ∙ sum_by_push (λ n. bit (eqb n number)) u.free.items row.number in
+          let new = sum_by_push (λ r. bit (eqb r.number number)) rows row in
+          omega arith) (omega (arith, length-append rows (row ∷ []))) (omega arith);
+    }))
 
--- and none of them meets the one that was taken
-pub apart_removed : (t u : Table) (row : Row) → IsRowTable t (rows_of t) → Contains (rows_of t) row →
-    u.slots ≡ t.slots → u.order.numbers ≡ filter (λ n. not (eqb n row.number)) t.order.numbers → All (λ p. meets p.span row.part.span ≡ false) (parts_of u)
-apart_removed t u row i m slots order = rw (rows_removed t u row.number slots order) (others_apart t (rows_of t) row i m)
+-- without the extent that begins at a page, the table keeps those that begin elsewhere
+pub table_removed : (t u : Table) (row : Row) (first : ℕ) → IsRowTable t (rows_of t) → IsRowAt t first row → u.order.numbers ≡ filter (λ n. not (eqb n row.number)) t.order.numbers → u.order.places ≡ t.order.places → LosesLists (lists_of t) (lists_of u) row →
+    u.slots ≡ t.slots → u.firsts.keys ≡ keys_without t.firsts.keys (first_key row) → u.edges.numbers ≡ without_edges t.edges.numbers row.part.span → u.edges.chunks ≡ t.edges.chunks →
+    u.free.items ≡ t.free.items ++ row.number ∷ [] → vec_len u.free ≡ vec_len t.free + 1 → vec_capacity t.free ≤ vec_capacity u.free → KeepsExtents u (filter (λ p. not (begins_at first p)) (parts_of t))
+table_removed t u row first i at order places lists slots firsts numbers chunks free free_len room =
+    let rows = rows_of t in
+    let x = i.indexes in
+    let rest = others row.number rows in
+    let m = at.there in
+    let len : vec_len t.slots ≡ vec_len u.slots = ap (λ v. vec_len v) (sym slots) in
+    let all = x.places in
+    subst (KeepsExtents u) (others_begin t rows row first i m (found (begins_at first) (parts_of t) row.part at.found).1) (keeps u rest (record {
+      indexes = record {
+        apart = apart_less row.number rows x.apart;
+        order = order_less t rows row i m u.order.numbers order;
+        places = omega arith;
+        lists = subst (λ n. HaveRows (lists_of u) n rest) len (lists_less t rows row i m (lists_of u) lists);
+        firsts = subst (IsKeyed first_key rest) (sym firsts) (keyed_less first_key rows row t.firsts.keys x.firsts m (one t rows row i m) (λ r k n e f. first_own r row k e f));
+        edges = edges_less t rows row i m u.edges numbers chunks;
+        slots = subst (λ v. All (λ r. part_at v.items r.number ≡ r.part) rest) (sym slots) (slots_less t rows row i m);
+      };
+      slots = slotted t u rows rest i.slots (sym len) (λ number.
+          let new = ap (count_by (λ n. eqb n number)) free ∙ sum_by_push (λ n. bit (eqb n number)) t.free.items row.number in
+          omega (arith, count_fewer t rows row i m number)) (omega (arith, fewer t rows row i m)) (omega arith);
+    }))
 
 -- there is one less
-pub order_fewer : (t : Table) (row : Row) → IsRowTable t (rows_of t) → Contains (rows_of t) row → {numbers : List ℕ} → numbers ≡ filter (λ n. not (eqb n row.number)) t.order.numbers → length numbers + 1 ≡ length t.order.numbers
-order_fewer t row i m e =
+pub order_fewer : (t : Table) (row : Row) → IsRowTable t (rows_of t) → Contains (rows_of t) row → (numbers : List ℕ) → numbers ≡ filter (λ n. not (eqb n row.number)) t.order.numbers → length numbers + 1 ≡ length t.order.numbers
+order_fewer t row i m numbers e =
     let all = ap length i.indexes.order ∙ length-map (rows_of t) (λ r. r.number) in
-    let new = ap length (e ∙ ap (filter (λ n. not (eqb n row.number))) i.indexes.order ∙ filter_map_is (λ r. r.number) (λ n. not (eqb n row.number)) (rows_of t)) ∙ length-map (others row.number (rows_of t)) (λ r. r.number) in
+    let new = ap length (order_less t (rows_of t) row i m numbers e) ∙ length-map (others row.number (rows_of t)) (λ r. r.number) in
     let less = fewer t (rows_of t) row i m in
     omega arith
 
 -- its first and its last page have leaves
 pub leaves_there : (t : Table) (edges : Pages) (row : Row) → IsRowTable t (rows_of t) → Contains (rows_of t) row → edges.chunks ≡ t.edges.chunks → leaves_for edges row.part.span ≡ 0
-leaves_there t edges row i m chunks =
-    let has = All-contains (IsLeafed t.edges.chunks) (rows_of t) row i.indexes.leaves m in
-    rw (chunks, has.0, has.1) refl
+leaves_there t edges row i m chunks = grind (arith, nat_tests)

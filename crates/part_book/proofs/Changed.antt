@@ -1,13 +1,12 @@
 -- What an exchange makes of the extents, and of their slots.
-use Rattle.part_book.proofs.Words.{◌≡◌, ◌≢◌, ℕ, ◌+◌, ◌-◌, ◌≤◌, nat_cmp, unsigned_tied, nat_cmp_total, true, false, not, eqb, ltb, [], ◌∷◌, ◌++◌, filter, length-append, Some, option_map, vec_len, vec_capacity, inl, inr, refl, sym, ap, ◌∙◌, subst, arith, All, Contains, count_by, ◌/◌, ◌<◌, ◌||◌, List, find, Option, None, append_assoc, IfSome, IsSome, cases_Bool, eq-eqb, eqb-true, not_from_false, nat_tests, map-append, All-contains, All-filter, All-push, All-weaker, sum_by_push, Pages, Part, Span, IsPlaced, end_of, has_page, meets, begins_at, exchanged, Table, IsKeyed, Own, Row, first_key, is_edge, keys_without, with_edges, without_edges, IsApart, CanLower, HasListRoom, IsIndexed, IsLifted, IsRowTable, KeepsExtents, parts_of, rows_of, bit, find_is, all_from, filter_neither, filter_swap, find_kept, found, State, low_piece, high_piece, AreBeside, joined, leaves_for}
-use Rattle.part_book.proofs.Additions.{IsAdded, IsFresh, added, can_lower, numbers_more, rows_added, count_fewer, fewer, numbers_less, one, removed, rows_removed}
-use Rattle.part_book.proofs.Indexes.{IsLeafed, in_slots, keeps, parts_in}
+use Rattle.part_book.proofs.Words.{HaveRows, GainsLists, HasMore, LosesLists, lists_of, set_at, ◌≡◌, ◌≢◌, ℕ, ◌-◌, ◌≤◌, nat_cmp, unsigned_tied, nat_cmp_total, true, false, not, eqb, [], ◌∷◌, ◌++◌, filter, length-append, Some, option_map, vec_len, vec_capacity, refl, sym, ap, ◌∙◌, subst, arith, All, Contains, count_by, ◌<◌, ◌||◌, List, find, Option, None, IfSome, IsSome, eqb-true, not_from_false, nat_tests, map-append, All-contains, All-filter, All-push, All-weaker, sum_by_push, Pages, Part, Span, IsPlaced, end_of, has_page, meets, begins_at, exchanged, Table, IsKeyed, Own, Row, first_key, is_edge, with_edges, without_edges, IsApart, IsRowTable, KeepsExtents, parts_of, rows_of, bit, find_is, all_from, filter_neither, filter_swap, find_kept, found, low_piece, high_piece, AreBeside, joined, leaves_for}
+use Rattle.part_book.proofs.Additions.{IsFresh, count_fewer, edges_less, edges_more, fewer, fresh_again, lists_less, lists_more, numbers_less, numbers_more, one, order_less, parts_more, slots_less, slots_more, slotted}
+use Rattle.part_book.proofs.Indexes.{in_slots, keeps, parts_in}
 use Rattle.part_book.proofs.Keyed.{keyed_same}
 use Rattle.part_book.proofs.Parts.{edge_has, placed}
-use Rattle.part_book.proofs.Rowed.{one_row, other_row, others, others_begin, row_placed}
+use Rattle.part_book.proofs.Rowed.{apart_less, one_row, other_row, others, others_begin, row_placed}
 use Rattle.part_book.proofs.Chunks.{leaves_both, leaves_none}
 use Rattle.std.specs.FinMap as map_of
-use Rattle.std.specs.FinSet as set
 
 -- ---- the first and the last page
 
@@ -28,9 +27,7 @@ moved_up m s t number page from to first own one =
 
 -- a map that has the number already is as if it were taken away and given again
 pub own_again : (pages : Pages) (p : Part) (number page : ℕ) → IsPlaced p.span → Own pages p.span number → map_of.get pages.numbers page ≡ map_of.get (with_edges (without_edges pages.numbers p.span) p.span number) page
-own_again pages p number page placed own =
-    sym (numbers_more (without_edges pages.numbers p.span) p number page placed
-    ∙ grind (arith, edge_own pages p number page placed own, numbers_less pages.numbers p page placed))
+own_again pages p number page placed own = grind (arith, nat_tests, edge_own, numbers_less, numbers_more)
 
 pub same_span : (s t : Span) → s.first ≡ t.first → s.pages ≡ t.pages → s ≡ t
 same_span s t e f = λ i. record { first = e i; pages = f i }
@@ -42,109 +39,55 @@ module _ (t : Table) (row : Row) (i : IsRowTable t (rows_of t)) (m : Contains (r
       let rows = rows_of t in
       let has : (x : Row) → Contains rows x → is_edge page x.part ≡ true → has_page page x.part.span ≡ true = λ x k. edge_has x.part page (row_placed rows x i.indexes.apart k) in
       let is = find_is (λ r. is_edge page r.part) rows row m e (λ y n u. one_row rows i.indexes.apart page row y m n (has row m e) (has y n u)) in
-      i.indexes.edges page ∙ ap (option_map (λ r. r.number)) is
+      i.indexes.edges.numbers page ∙ ap (option_map (λ r. r.number)) is
 
   pub own : (edges : Pages) → edges ≡ t.edges → Own edges row.part.span row.number
-  own edges same =
-      let placed = row_placed (rows_of t) row i.indexes.apart m in
-      let leaves = All-contains (IsLeafed t.edges.chunks) (rows_of t) row i.indexes.leaves m in
-      let first : is_edge row.part.span.first row.part ≡ true = grind (arith, nat_tests) in
-      let last : is_edge (end_of row.part.span - 1) row.part ≡ true = grind (arith, nat_tests) in
-      subst (λ e. Own e row.part.span row.number) (sym same) (record {
-        first = own_page row.part.span.first first;
-        last = own_page (end_of row.part.span - 1) last;
-        first_leaf = leaves.0;
-        last_leaf = leaves.1;
-      })
+  own edges same = grind (arith, nat_tests, own_page, row_placed)
 
-  module _ (w : Table) (l : IsLifted t w row) (other : Row) (same : other.number ≡ row.number) (placed : IsPlaced other.part.span)
-      (apart : All (λ p. meets p.span other.part.span ≡ false) (filter (λ p. not (begins_at row.part.span.first p)) (parts_of t))) where
-    -- the table without the extent
-    abbrev pub between : Table
-    between = record w {
-      firsts = record t.firsts { keys = keys_without t.firsts.keys (first_key row) };
-      edges = record t.edges { numbers = without_edges t.edges.numbers row.part.span };
-    }
+  -- the others are those that begin elsewhere
+  pub begins : parts_in (others row.number (rows_of t)) ≡ filter (λ p. not (begins_at row.part.span.first p)) (parts_of t)
+  begins = others_begin t (rows_of t) row row.part.span.first i m (grind (arith, nat_tests))
 
-    pub left : IsIndexed between (others row.number (rows_of t))
-    left = removed t (rows_of t) row i m between (record {
-      order = l.order;
-      places = l.places;
-      dirty = l.dirty;
-      muzzy = l.muzzy;
-      retained = l.retained;
-      flights = l.flights;
-      firsts = refl;
-      sizes = l.sizes;
-      numbers = refl;
-      chunks = refl;
-      slots = l.slots;
-    })
+  -- an extent that gets its number, and meets no other, is fresh among the others
+  pub fresh_for : (other : Row) → other.number ≡ row.number → IsPlaced other.part.span → All (λ p. meets p.span other.part.span ≡ false) (filter (λ p. not (begins_at row.part.span.first p)) (parts_of t)) → IsFresh (vec_len t.slots) (others row.number (rows_of t)) other
+  fresh_for other same placed apart =
+      fresh_again t (rows_of t) row i m other placed (subst (All (λ p. meets p.span other.part.span ≡ false)) (sym begins) apart)
+      (let slot = in_slots t (rows_of t) row i.slots m in omega arith) (λ r n e. (other_row row.number (rows_of t) r n).1 (e ∙ same))
 
-    pub begins : parts_in (others row.number (rows_of t)) ≡ filter (λ p. not (begins_at row.part.span.first p)) (parts_of t)
-    begins = others_begin t (rows_of t) row row.part.span.first i m (grind (arith, nat_tests))
-
-    -- the other extent is new to it
-    again : IsFresh between (others row.number (rows_of t)) other
-    again =
-        let len : vec_len w.slots ≡ vec_len t.slots = ap (λ v. vec_len v) l.slots in
-        let within = λ (r : Row) (n : Contains (rows_of t) r). in_slots t (rows_of t) r i.slots n in
-        record {
-          placed = placed;
-          apart = subst (All (λ p. meets p.span other.part.span ≡ false)) (sym begins) apart;
-          number = λ r n e. (let o = other_row row.number (rows_of t) r n in let t' = eq-eqb r.number row.number (e ∙ same) in let no : true ≡ false = sym t' ∙ o.1 in cc);
-          slot = let in_it = within row m in omega arith;
-          small = omega arith;
-          within = λ r n. (let in_it = within r (other_row row.number (rows_of t) r n).0 in omega arith);
-          few = omega (arith, fewer t (rows_of t) row i m);
-        }
-
-    -- so the lists take it
-    pub lowerable : HasListRoom w 1 → CanLower w other
-    lowerable room =
-        let can = can_lower between (others row.number (rows_of t)) other left again (record { sizes = room.sizes; flights = room.flights }) in
-        record { place = can.place; new_number = can.new_number; lists = record { placed = can.lists.placed; dirty = can.lists.dirty; muzzy = can.lists.muzzy; retained = can.lists.retained; sizes = can.lists.sizes; absent = can.lists.absent; flights = can.lists.flights } }
-
-    -- the table keeps the extents, and the other one in place of the one
-    pub table_exchanged : (u : Table) → other.part.span.first ≡ row.part.span.first → IsAdded between u other → u.firsts ≡ t.firsts → u.free ≡ t.free → KeepsExtents u (exchanged (begins_at row.part.span.first) (parts_of t) (other.part ∷ []))
-    table_exchanged u first a firsts free =
-        let rows = rows_of t in
-        let now = others row.number rows ++ other ∷ [] in
-        let key : first_key row ≡ first_key other = λ k. Some (record { major = sym first k; minor = sym same k }) in
-        let keyed = keyed_same first_key rows row t.firsts.keys i.indexes.firsts m (one t rows row i m) other key in
-        let len : vec_len u.slots ≡ vec_len t.slots = a.slots_len ∙ ap (λ v. vec_len v) l.slots in
-        let free_len = ap (λ v. vec_len v) free in
-        let free_room = ap (λ v. vec_capacity v) free in
-        let were = rows_removed t between row.number l.slots l.order in
-        subst (KeepsExtents u) (map-append (λ r. r.part) (others row.number rows) (other ∷ []) ∙ ap (λ ps. ps ++ other.part ∷ []) begins)
-        (keeps u now (rows_added between (others row.number rows) other left again u were a) (record {
-          indexes = added between (others row.number rows) other left again u a (subst (λ k. IsKeyed first_key now k.keys) (sym firsts) keyed);
-          slots = record {
-            free = λ number.
-                let count = i.slots.free number in
-                let of = ap (λ v. count_by (λ n. eqb n number) v.items) free in
-                let less = count_fewer t rows row i m number in
-                let new = sum_by_push (λ r. bit (eqb r.number number)) (others row.number rows) other in
-                let own = ap (λ n. bit (eqb n number)) same in
-                let test = ap (λ n. bit (ltb number n)) len in
-                omega arith;
-            places = omega (arith, length-append (others row.number rows) (other ∷ []), fewer t rows row i m);
-            small = omega arith;
-            room = omega arith;
-          };
-        }))
-
--- ---- an exchange
-
--- the extents but the one at a page don't meet what it is exchanged for
-pub others_from : (old : List Part) (first at : ℕ) (p : Part) → at ≡ first → All (λ x. meets x.span p.span ≡ false) (filter (λ x. not (begins_at first x)) old) → All (λ x. meets x.span p.span ≡ false) (filter (λ x. not (begins_at at x)) old)
-others_from old first at p e all = rw e all
-
--- the extents after one was exchanged
-pub changed_parts : (change : Part → Part) (old now v : List Part) (first at : ℕ) (p : Part) → old ≡ now → find (begins_at first) old ≡ Some p → at ≡ first → v ≡ exchanged (begins_at at) old (change p ∷ []) →
-    IfSome (find (begins_at first) now) (λ q. v ≡ exchanged (begins_at first) now (change q ∷ []))
-changed_parts change old now v first at p same e is to =
-    rw (sym (ap (find (begins_at first)) same) ∙ e) (to ∙ ap (λ n. exchanged (begins_at n) old (change p ∷ [])) is ∙ ap (λ ps. exchanged (begins_at first) ps (change p ∷ [])) same)
+  -- the table keeps the extents, and the other one in place of the one
+  pub table_exchanged : (w u : Table) (other : Row) → other.number ≡ row.number → IsPlaced other.part.span → All (λ p. meets p.span other.part.span ≡ false) (filter (λ p. not (begins_at row.part.span.first p)) (parts_of t)) → other.part.span.first ≡ row.part.span.first →
+      LosesLists (lists_of t) (lists_of w) row → GainsLists (lists_of w) (lists_of u) other → u.order.numbers ≡ filter (λ n. not (eqb n row.number)) t.order.numbers ++ other.number ∷ [] → u.order.places ≡ t.order.places → u.firsts ≡ t.firsts →
+      ((page : ℕ) → map_of.get u.edges.numbers page ≡ map_of.get (with_edges (without_edges t.edges.numbers row.part.span) other.part.span other.number) page) → HasMore t.edges.chunks u.edges.chunks other.part.span →
+      u.slots.items ≡ set_at t.slots.items other.number other.part → vec_len u.slots ≡ vec_len t.slots → u.free ≡ t.free → KeepsExtents u (exchanged (begins_at row.part.span.first) (parts_of t) (other.part ∷ []))
+  table_exchanged w u other same placed apart first lost gained order places firsts numbers chunks slots slots_len free =
+      let rows = rows_of t in
+      let x = i.indexes in
+      let n = vec_len t.slots in
+      let rest = others row.number rows in
+      let now = rest ++ other ∷ [] in
+      let f = fresh_for other same placed apart in
+      let key : first_key row ≡ first_key other = λ k. Some (record { major = sym first k; minor = sym same k }) in
+      let few = apart_less row.number rows x.apart in
+      let without = edges_less t rows row i m (record t.edges { numbers = without_edges t.edges.numbers row.part.span }) refl refl in
+      let all = x.places in
+      subst (KeepsExtents u) (map-append (λ r. r.part) rest (other ∷ []) ∙ ap (λ ps. ps ++ other.part ∷ []) begins)
+      (keeps u now (record {
+        indexes = record {
+          apart = parts_more rest other n f few;
+          order = order ∙ ap (λ ns. ns ++ other.number ∷ []) (order_less t rows row i m _ refl) ∙ sym (map-append (λ r. r.number) rest (other ∷ []));
+          places = omega arith;
+          lists = subst (λ k. HaveRows (lists_of u) k now) (sym slots_len) (lists_more rest other n f (lists_of w) (lists_of u) (lists_less t rows row i m (lists_of w) lost) gained);
+          firsts = subst (λ k. IsKeyed first_key now k.keys) (sym firsts) (keyed_same first_key rows row t.firsts.keys x.firsts m (one t rows row i m) other key);
+          edges = edges_more rest other n f _ u.edges few without numbers chunks;
+          slots = slots_more rest other n f t.slots.items u.slots.items (omega (arith, t.slots.ok.0)) slots (slots_less t rows row i m);
+        };
+        slots = slotted t u rows now i.slots slots_len (λ number.
+            let of = ap (λ v. count_by (λ n. eqb n number) v.items) free in
+            let new = sum_by_push (λ r. bit (eqb r.number number)) rest other in
+            let own = ap (λ n. bit (eqb n number)) same in
+            omega (arith, count_fewer t rows row i m number))
+            (omega (arith, length-append rest (other ∷ []), fewer t rows row i m, ap (λ v. vec_len v) free)) (omega (arith, ap (λ v. vec_capacity v) free));
+      }))
 
 -- ---- a cut
 
@@ -171,18 +114,6 @@ high_apart left p low others now fewer all same e =
     rw e (All-push (λ x. meets x.span (high_piece left p).span ≡ false) others low
     (All-weaker (λ x. meets x.span p.span ≡ false) (λ x. meets x.span (high_piece left p).span ≡ false) (λ x f. meets_high left x p fewer f) others all)
     (rw same (grind (arith, nat_tests))))
-
--- the extents after a cut
-pub cut_parts : (old now u v : List Part) (first at left : ℕ) (p low high : Part) (a b : State) → old ≡ now → find (begins_at first) old ≡ Some p → at ≡ first → u ≡ exchanged (begins_at at) old (record low { state = a } ∷ []) → v ≡ u ++ record high { state = b } ∷ [] → low ≡ low_piece left p → high ≡ high_piece left p →
-    IfSome (find (begins_at first) now) (λ q. v ≡ exchanged (begins_at first) now (record (low_piece left q) { state = a } ∷ record (high_piece left q) { state = b } ∷ []))
-cut_parts old now u v first at left p low' high' a b same e is more last low_is high_is =
-    let low : Part = record low' { state = a } in
-    let high : Part = record high' { state = b } in
-    let others = filter (λ q. not (begins_at first q)) old in
-    rw (sym (ap (find (begins_at first)) same) ∙ e) (
-    last ∙ ap (λ xs. xs ++ high ∷ []) (more ∙ ap (λ n. exchanged (begins_at n) old (low ∷ [])) is)
-    ∙ append_assoc others (low ∷ []) (high ∷ [])
-    ∙ cc)
 
 -- ---- a join
 
@@ -212,11 +143,7 @@ pair low high old now q same some beside e apart = by (find (begins_at low) now)
 pub pair_is : (low high : ℕ) (old now left : List Part) (p q : Part) → old ≡ now → IsSome (find (begins_at low) now) →
     IfSome (find (begins_at low) now) (λ x. IfSome (find (begins_at high) now) (λ y. AreBeside x y)) → find (begins_at high) old ≡ Some q → IsApart old →
     left ≡ filter (λ x. not (begins_at high x)) old → find (begins_at low) left ≡ Some p → IsPair low high old p q
-pair_is low high old now left p q same some beside e apart less f =
-    let n = pair low high old now q same some beside e apart in
-    let twice : Some n.0 ≡ Some p = sym n.1.later ∙ ap (find (begins_at low)) (sym less) ∙ f in
-    let is : n.0 ≡ p = cc in
-    subst (λ x. IsPair low high old x q) is n.1
+pair_is low high old now left p q same some beside e apart less f = grind (arith, nat_tests, pair)
 
 -- two extents of the space as one lie in the space
 pub joined_placed : (p q : Part) → IsPlaced p.span → IsPlaced q.span → AreBeside p q → IsPlaced (joined p q).span
@@ -237,11 +164,7 @@ joined_apart old at p q sound beside from_p from_q =
 
 -- its first and its last page have leaves
 pub joined_leaves : (t : Pages) (p q : Part) → AreBeside p q → leaves_for t p.span ≡ 0 → leaves_for t q.span ≡ 0 → leaves_for t (joined p q).span ≡ 0
-joined_leaves t p q beside of_p of_q =
-    let low = leaves_none t p.span of_p in
-    let high = leaves_none t q.span of_q in
-    let end : end_of (joined p q).span ≡ end_of q.span = omega (arith, beside) in
-    leaves_both t (joined p q).span low.0 (ap (λ n. set.contains t.chunks ((n - 1) / 512)) end ∙ high.1)
+joined_leaves t p q beside of_p of_q = grind (arith, nat_tests, leaves_both, leaves_none)
 
 -- the extents after a join
 pub join_parts : (old now t v : List Part) (low high at : ℕ) (p q : Part) → old ≡ now → find (begins_at low) old ≡ Some p → find (begins_at high) old ≡ Some q → t ≡ filter (λ x. not (begins_at high x)) old → at ≡ low → v ≡ exchanged (begins_at at) t (joined p q ∷ []) →

@@ -1,5 +1,5 @@
 -- The leaves that are left after chunks got some.
-use Rattle.part_book.proofs.Words.{◌≡◌, ℕ, ◌+◌, ◌-◌, ◌/◌, ◌<◌, ◌≤◌, min, Bool, true, false, not, cond, eqb, ◌||◌, List, length, filter, count_by, inl, inr, refl, sym, ap, ◌∙◌, subst, arith, Contains, nat_cmp, range_with_len, unsigned_tied, nat_cmp_total, cases_Bool, eq-eqb, filter_agree, sum_by-filter_both, count_by-le-length, length-filter, get_or-range_with_len, length-range_with_len, filter_has, Pages, CHUNKS, Span, IsPlaced, end_of, HasLeaves, HasMore, leaves_for, missing, bit, count_some, filter_neither}
+use Rattle.part_book.proofs.Words.{◌≡◌, ℕ, ◌+◌, ◌-◌, ◌/◌, ◌<◌, ◌≤◌, min, Bool, true, false, not, cond, eqb, ◌||◌, List, length, filter, count_by, refl, sym, ap, ◌∙◌, subst, arith, Contains, nat_cmp, range_with_len, unsigned_tied, nat_cmp_total, eq-eqb, filter_agree, sum_by-filter_both, count_by-le-length, length-filter, get_or-range_with_len, length-range_with_len, filter_has, Pages, CHUNKS, Span, IsPlaced, end_of, HasLeaves, HasMore, leaves_for, missing, bit, count_some, filter_neither, nat_tests}
 use Rattle.std.specs.FinSet as set
 
 -- a chunk is in a set to which another one was added where it is that one or was in it
@@ -73,9 +73,7 @@ has_leaf p c n l has f =
 
 -- the leaves that are left after a chunk got its leaf
 pub leaves_after : (p q : Pages) (c n : ℕ) → c < CHUNKS → q.chunks ≡ set.insert p.chunks c → q.spare ≡ cond (set.contains p.chunks c) p.spare (p.spare - 1) → HasLeaves p (n + wanted p c) → HasLeaves q n
-leaves_after p q c n l chunks spare has =
-    let is = ap missing chunks in
-    grind (arith, is, spare, missing_no_more p.chunks c, missing_less p.chunks c l, has)
+leaves_after p q c n l chunks spare has = grind (arith, nat_tests, missing_less, missing_no_more)
 
 -- a chunk wants no more after another one got its leaf
 pub wanted_less : (p q : Pages) (k c : ℕ) → q.chunks ≡ set.insert p.chunks k → wanted q c ≤ wanted p c
@@ -120,8 +118,4 @@ leaves_last p s b = rw b (let le = want_le (set.contains p.chunks (s.first / 512
 
 -- chunks keep their leaves, and those of the first and the last page of a span get one
 pub leaves_kept : (s : set.FinSet nat_cmp) {u : set.FinSet nat_cmp} (span : Span) → u ≡ set.insert (set.insert s (span.first / 512)) ((end_of span - 1) / 512) → HasMore s u span
-leaves_kept s span e = record {
-  kept = λ c t. rw e (contains_kept (set.insert s (span.first / 512)) ((end_of span - 1) / 512) c (contains_kept s (span.first / 512) c t));
-  first = rw e (contains_kept (set.insert s (span.first / 512)) ((end_of span - 1) / 512) (span.first / 512) (contains_new s (span.first / 512)));
-  last = rw e (contains_new (set.insert s (span.first / 512)) ((end_of span - 1) / 512));
-}
+leaves_kept s span e = grind (arith, nat_tests, contains_kept, contains_new)

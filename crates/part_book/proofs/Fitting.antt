@@ -1,5 +1,5 @@
 -- The walk through the unused extents by size finds the one that fits best.
-use Rattle.part_book.proofs.Words.{◌≡◌, ℕ, ◌+◌, ◌*◌, ◌-◌, ◌/◌, ◌%◌, ◌^◌, ◌<◌, ◌≤◌, Bool, true, false, ◌&&◌, eqb, List, [], ◌∷◌, length, count_by, cond, filter, find, slice_get, Some, None, Ordering, Less, Equal, Greater, is_gt, inl, inr, refl, sym, ap, ◌∙◌, subst, arith, sum_by, Contains, list_any, ordering_reverse, and_left, and_parts, cases_Bool, cases_lt, eq-eqb, false_from_ne_true, ne_eqb, not-true, nat_tests, list_any-from_Any, list_any_none, get_or-le-sum_by, sum_by-cons, mul-le, Key, IsAscending, is_above, is_from, key_cmp, key_tie, key_total, contains_later, filter_has, from_start, less_from_parts, less_major, start, start_from, Part, Rest, ToDirty, ToMuzzy, ToRetained, Span, State, Dirty, Muzzy, Retained, IsPlaced, holds_run, is_listed, fit_of, is_best, is_better, is_candidate, IsApart, IsKeyed, Row, key_span, listed_in, numbers_of, pages_of_rows, rank, rank_of, ranked_key, size_key, all_from, find_is, find_none, head, map_from, map_has, mapped_some, none_found}
+use Rattle.part_book.proofs.Words.{◌≡◌, ℕ, ◌+◌, ◌*◌, ◌-◌, ◌/◌, ◌%◌, ◌^◌, ◌<◌, ◌≤◌, Bool, true, false, ◌&&◌, eqb, List, [], ◌∷◌, length, count_by, cond, filter, find, slice_get, Some, None, Less, inl, inr, refl, sym, ap, ◌∙◌, subst, arith, sum_by, Contains, list_any, and_left, and_parts, cases_Bool, false_from_ne_true, not-true, nat_tests, list_any-from_Any, list_any_none, get_or-le-sum_by, sum_by-cons, mul-le, Key, IsAscending, is_above, is_from, key_cmp, key_tie, key_total, contains_later, filter_has, from_start, less_from_parts, less_major, start, start_from, Part, Rest, Span, State, IsPlaced, holds_run, is_listed, fit_of, is_best, is_better, is_candidate, IsApart, IsKeyed, Row, key_span, listed_in, numbers_of, pages_of_rows, rank, rank_of, ranked_key, size_key, all_from, find_is, find_none, head, map_from, map_has, mapped_some, none_found}
 use Rattle.part_book.proofs.Walks.{find_some}
 use Rattle.part_book.proofs.Indexes.{parts_in}
 use Rattle.part_book.proofs.Parts.{one_owner, placed}
@@ -13,17 +13,11 @@ no_lower first align k some le = grind (arith, mul-le (k + 1) align ((first + (a
 
 -- the next multiple is where a run starts
 pub next_multiple : (first align skipped : ℕ) → 0 < align → (k : ℕ) × (k * align ≡ first + skipped) → ((k : ℕ) → first ≤ k * align → first + skipped ≤ k * align) → first + skipped ≡ (first + (align - 1)) / align * align
-next_multiple first align skipped some (k, e) least =
-    let low = no_lower first align k some (omega arith) in
-    let up : first ≤ (first + (align - 1)) / align * align = omega arith in
-    let high = least ((first + (align - 1)) / align) up in
-    omega arith
+next_multiple first align skipped some (k, e) least = grind (arith, nat_tests, no_lower)
 
 -- a span that holds a run has no fewer pages
 holds_pages : (s : Span) (pages align : ℕ) → 0 < align → holds_run pages align s ≡ true → pages ≤ s.pages
-holds_pages s pages align some t =
-    let up : s.first ≤ (s.first + (align - 1)) / align * align = omega arith in
-    grind (arith, nat_tests)
+holds_pages s pages align some t = grind (arith, nat_tests)
 
 -- ---- keys
 
@@ -56,10 +50,7 @@ pub record IsKeyOf (row : Row) (r : ℕ) (key : Key) : Type 0 where
   pub number : key.minor % 2 ^ 32 ≡ row.number
 
 key_is : (row : Row) (r : ℕ) → IsPlaced row.part.span → row.number < 2 ^ 32 → IsKeyOf row r (ranked_key row r)
-key_is row r inside small =
-    let first : (row.part.span.first * 2 ^ 32 + row.number) / 2 ^ 32 ≡ row.part.span.first = omega arith in
-    let pages : (r * 2 ^ 32 + row.part.span.pages) % 2 ^ 32 ≡ row.part.span.pages = omega arith in
-    record { own = refl; span = λ j. record { first = first j; pages = pages j }; rank = omega arith; number = omega arith }
+key_is row r inside small = grind (arith, nat_tests)
 
 -- ---- the walk
 

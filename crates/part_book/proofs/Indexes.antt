@@ -1,5 +1,5 @@
 -- What the indexes of a table say of its extents.
-use Rattle.part_book.proofs.Words.{◌≡◌, ℕ, ◌-◌, ◌/◌, ◌^◌, ◌<◌, ◌≤◌, Bool, true, false, cond, not, eqb, List, [], ◌∷◌, length, map, filter, find, get_or, slice_get, Option, Some, None, option_map, count_by, vec_len, inl, inr, refl, sym, ap, ◌∙◌, subst, arith, All, Contains, nat_cmp, cases_Bool, cases_lt, true_from_ne_false, IsPlaced, end_of, nat_tests, All-contains, All-head, All-nil, All-tail, Contains-get_or, get_or_default_zero, find_at, position_or_len_is, sum_by-cons, IsStrictlySortedBy-filter, get_or_from_slice_get, slice_get-get_or, slice_get_within, Key, IsAscending, is_below, is_from, key_cmp, last_of, every_member, filter_from, filter_has, from_start, last_greatest, major_less, start, start_from, Part, State, Active, Dirty, Muzzy, Retained, Flight, is_flight, is_in_flight, Rest, ToDirty, ToMuzzy, ToRetained, AgeList, Table, IsFirstFrom, IsKeyed, IsLastBelow, Row, first_key, flights_in, is_edge, part_at, row_at, size_key, IsIndexed, IsListOf, IsSlotted, IsRowTable, KeepsExtents, rows_of, all_from, count_some, find_map, find_none, found, map_from, map_has, mapped_none, mapped_some, none_found}
+use Rattle.part_book.proofs.Words.{numbers_of, ◌≡◌, ℕ, ◌-◌, ◌/◌, ◌^◌, ◌<◌, ◌≤◌, Bool, true, false, cond, eqb, List, [], ◌∷◌, length, map, filter, find, get_or, slice_get, Option, Some, None, option_map, count_by, vec_len, refl, sym, ap, ◌∙◌, subst, arith, All, Contains, nat_cmp, true_from_ne_false, IsPlaced, end_of, nat_tests, All-contains, All-head, All-nil, All-tail, Contains-get_or, get_or_default_zero, find_at, position_or_len_is, sum_by-cons, IsStrictlySortedBy-filter, get_or_from_slice_get, slice_get-get_or, slice_get_within, Key, IsAscending, is_below, is_from, key_cmp, last_of, every_member, filter_from, filter_has, from_start, last_greatest, major_less, start, start_from, Part, State, is_flight, is_in_flight, Rest, ToDirty, ToMuzzy, ToRetained, AgeList, Table, IsFirstFrom, IsKeyed, IsLastBelow, Row, first_key, flights_in, is_edge, part_at, row_at, size_key, IsIndexed, IsListOf, IsSlotted, IsRowTable, KeepsExtents, rows_of, all_from, count_some, find_map, find_none, found, map_from, map_has, mapped_none, mapped_some, none_found}
 use Rattle.part_book.proofs.Walks.{find_some}
 use Rattle.std.specs.FinMap as map_of
 use Rattle.std.specs.FinSet as set
@@ -8,9 +8,18 @@ use Rattle.std.specs.FinSet as set
 abbrev pub parts_in : List Row → List Part
 parts_in rows = map (λ row. row.part) rows
 
--- a table whose rows are known
-pub keeps : (t : Table) (rows : List Row) → rows_of t ≡ rows → IsRowTable t rows → KeepsExtents t (parts_in rows)
-keeps t rows e i = record { table = subst (IsRowTable t) (sym e) i; parts = ap parts_in e }
+-- the slots of the numbers of some rows have these
+rows_read : (slots : List Part) (rows : List Row) → All (λ row. part_at slots row.number ≡ row.part) rows → map (row_at slots) (numbers_of rows) ≡ rows
+rows_read slots [] all = refl
+rows_read slots (r ∷ rows) all =
+    let here : row_at slots r.number ≡ r = λ k. record { number = r.number; part = All-head (λ row. part_at slots row.number ≡ row.part) r rows all k } in
+    let rest = rows_read slots rows (All-tail (λ row. part_at slots row.number ≡ row.part) r rows all) in
+    cc
+
+-- a table in order with some rows keeps their extents
+pub keeps : (t : Table) (rows : List Row) → IsRowTable t rows → KeepsExtents t (parts_in rows)
+unfolding rows_of
+keeps t rows i = grind (arith, nat_tests, rows_read)
 
 -- the first and the last page of an extent lie in chunks that have leaves
 abbrev pub IsLeafed : set.FinSet nat_cmp → Row → Type 0
@@ -37,21 +46,15 @@ slot_of t rows r i m e = (subst (λ n. n < vec_len t.slots) e (in_slots t rows r
 
 -- the row of a number that the map gives for a page
 pub edge_row : (t : Table) (rows : List Row) (page number : ℕ) → IsRowTable t rows → map_of.get t.edges.numbers page ≡ Some number → (r : Row) × (find (λ row. is_edge page row.part) rows ≡ Some r) × Contains rows r × (r.number ≡ number)
-edge_row t rows page number i e =
-    let p = mapped_some (λ row. row.number) (find (λ row. is_edge page row.part) rows) number (sym (i.indexes.edges page) ∙ e) in
-    (p.0, p.1, (found (λ row. is_edge page row.part) rows p.0 p.1).0, p.2)
+edge_row t rows page number i e = grind (arith, nat_tests, found, mapped_some)
 
 -- the slot of that number has the extent whose first or last page it is
 pub edge_part : (t : Table) (rows : List Row) (page number : ℕ) → IsRowTable t rows → map_of.get t.edges.numbers page ≡ Some number → find (is_edge page) (parts_in rows) ≡ Some (part_at t.slots.items number)
-edge_part t rows page number i e =
-    let p = edge_row t rows page number i e in
-    find_map (λ row. row.part) (is_edge page) rows ∙ ap (option_map (λ row. row.part)) p.1 ∙ ap (λ q. Some q) (sym (slot_of t rows p.0 i p.2 p.3).1)
+edge_part t rows page number i e = grind (arith, nat_tests, edge_row, find_map, slot_of)
 
 -- a page without a number is no first or last page
 pub edge_none : (t : Table) (rows : List Row) (page : ℕ) → IsRowTable t rows → map_of.get t.edges.numbers page ≡ None → find (is_edge page) (parts_in rows) ≡ None
-edge_none t rows page i e =
-    let none = mapped_none (λ row. row.number) (find (λ row. is_edge page row.part) rows) (sym (i.indexes.edges page) ∙ e) in
-    find_map (λ row. row.part) (is_edge page) rows ∙ ap (option_map (λ row. row.part)) none
+edge_none t rows page i e = grind (arith, nat_tests, find_map, mapped_none)
 
 -- ---- the first pages
 
@@ -161,7 +164,7 @@ find_flight slots client (r ∷ rows) all =
 
 -- so the flights of the table tell the first one
 pub flight_of : (t : Table) (client : ℕ) → IsRowTable t (rows_of t) → find (λ p. is_flight client p.state) (parts_in (rows_of t)) ≡ option_map (part_at t.slots.items) (find (is_flown t.slots.items client) t.flights.items)
-flight_of t client i = find_flight t.slots.items client (rows_of t) i.indexes.slots ∙ ap (λ ns. option_map (part_at t.slots.items) (find (is_flown t.slots.items client) ns)) (sym i.indexes.flights)
+flight_of t client i = find_flight t.slots.items client (rows_of t) i.indexes.slots ∙ ap (λ ns. option_map (part_at t.slots.items) (find (is_flown t.slots.items client) ns)) (sym i.indexes.lists.flights)
 
 -- a loop over numbers finds the first one that passes
 pub first_number : (p : ℕ → Bool) (ns : List ℕ) (i : ℕ) → i < length ns → ((k : ℕ) → k < i → p (get_or ns k 0) ≡ false) → p (get_or ns i 0) ≡ true → find p ns ≡ Some (get_or ns i 0)
@@ -175,15 +178,11 @@ no_number p ns none = find_none p ns (λ n (k, l, e). ap p (sym e ∙ get_or_def
 pub flights_in_slots : (t : Table) (rows : List Row) → IsRowTable t rows → (k : ℕ) → k < length t.flights.items → get_or t.flights.items k 0 < vec_len t.slots
 flights_in_slots t rows i k l =
     let m : Contains t.flights.items (get_or t.flights.items k 0) = Contains-get_or t.flights.items k 0 l in
-    let n = map_from (λ row. row.number) (filter (λ row. is_in_flight row.part.state) rows) (get_or t.flights.items k 0) (subst (λ ns. Contains ns (get_or t.flights.items k 0)) i.indexes.flights m) in
+    let n = map_from (λ row. row.number) (filter (λ row. is_in_flight row.part.state) rows) (get_or t.flights.items k 0) (subst (λ ns. Contains ns (get_or t.flights.items k 0)) i.indexes.lists.flights m) in
     let r = filter_from (λ row. is_in_flight row.part.state) rows n.0 n.1 in
     (slot_of t rows n.0 i r.0 n.2).0
 
 -- ---- a table without extents
-
-empty_rows : (t : Table) → t.order.numbers ≡ [] → rows_of t ≡ []
-unfolding rows_of
-empty_rows t e = ap (map (row_at t.slots.items)) e
 
 -- a list without extents
 no_list : (rest : Rest) (list : AgeList) (slots : ℕ) → list ≡ record { ages = record { numbers = []; places = 0 }; pages = 0 } → slots ≡ 0 → IsListOf rest list slots []
@@ -191,33 +190,26 @@ no_list rest list slots e none = record { numbers = ap (λ l. l.ages.numbers) e;
 
 -- a set without keys
 no_keys : (key_of : Row → Option Key) (keys : List Key) → keys ≡ [] → IsKeyed key_of [] keys
-no_keys key_of keys e = record {
-  has = λ r k m is. absurd (omega arith);
-  from = λ k m. absurd (let n : Contains {X = Key} [] k = subst (λ ks. Contains ks k) e m in omega arith);
-}
+no_keys key_of keys e = grind (arith, nat_tests)
 
 -- a table whose indexes have nothing
 pub empty_table : (t : Table) → t.order.numbers ≡ [] → (dirty : t.dirty ≡ record { ages = record { numbers = []; places = 0 }; pages = 0 }) → (muzzy : t.muzzy ≡ record { ages = record { numbers = []; places = 0 }; pages = 0 }) → (retained : t.retained ≡ record { ages = record { numbers = []; places = 0 }; pages = 0 }) →
     t.flights.items ≡ [] → t.firsts.keys ≡ [] → t.sizes.keys ≡ [] → t.edges.numbers ≡ map_of.empty → vec_len t.slots ≡ 0 → t.free.items ≡ [] → vec_len t.free ≡ 0 → KeepsExtents t []
-empty_table t order dirty muzzy retained flights firsts sizes numbers slots free free_len = keeps t [] (empty_rows t order) (record {
+empty_table t order dirty muzzy retained flights firsts sizes numbers slots free free_len = keeps t [] (record {
   indexes = record {
     apart = record { placed = All-nil (λ p. IsPlaced p.span); owners = λ page. omega arith };
     order = order;
     places = omega arith;
-    dirty = no_list ToDirty t.dirty (vec_len t.slots) dirty slots;
-    muzzy = no_list ToMuzzy t.muzzy (vec_len t.slots) muzzy slots;
-    retained = no_list ToRetained t.retained (vec_len t.slots) retained slots;
-    flights = flights;
+    lists = record {
+      dirty = no_list ToDirty t.dirty (vec_len t.slots) dirty slots;
+      muzzy = no_list ToMuzzy t.muzzy (vec_len t.slots) muzzy slots;
+      retained = no_list ToRetained t.retained (vec_len t.slots) retained slots;
+      flights = flights;
+      sizes = no_keys size_key t.sizes.keys sizes;
+    };
     firsts = no_keys first_key t.firsts.keys firsts;
-    sizes = no_keys size_key t.sizes.keys sizes;
-    edges = λ page. ap (λ m. map_of.get m page) numbers ∙ map_of.get-empty nat_cmp page;
-    leaves = All-nil (IsLeafed t.edges.chunks);
+    edges = record { numbers = λ page. ap (λ m. map_of.get m page) numbers ∙ map_of.get-empty nat_cmp page; leaves = All-nil (IsLeafed t.edges.chunks) };
     slots = All-nil (λ (r : Row). part_at t.slots.items r.number ≡ r.part);
   };
-  slots = record {
-    free = λ number. rw (free, slots) (grind (arith, nat_tests));
-    places = omega arith;
-    small = omega arith;
-    room = omega arith;
-  };
+  slots = record { free = λ number. rw (free, slots) (grind (arith, nat_tests)); places = omega arith; small = omega arith; room = omega arith };
 })

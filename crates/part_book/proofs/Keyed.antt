@@ -1,5 +1,5 @@
 -- Sets of the keys of extents that get an extent, lose one, or have one exchanged.
-use Rattle.part_book.proofs.Words.{◌≡◌, ◌≢◌, ◌+◌, ◌*◌, ◌^◌, ◌<◌, true, false, not, eqb, List, [], ◌∷◌, ◌++◌, Option, Some, None, inl, inr, refl, sym, ap, ◌∙◌, subst, arith, Contains, IfSome, cases_Bool, eq-eqb, eqb-true, false_from_ne_true, not_from_false, Contains-append_left, Contains-push, Contains-push_cases, Key, filter_has, with_from, with_keeps, with_self, without_from, without_keeps, IsKeyed, Row, first_key, keys_with, keys_without, rank_of, ranked_key, size_key, mapped_some}
+use Rattle.part_book.proofs.Words.{◌≡◌, ◌≢◌, ◌^◌, ◌<◌, not, eqb, List, [], ◌∷◌, ◌++◌, Option, Some, None, inl, inr, refl, sym, ap, ◌∙◌, arith, Contains, IfSome, cases_Bool, eqb-true, false_from_ne_true, not_from_false, Contains-append_left, Contains-push, Contains-push_cases, Key, filter_has, with_from, with_keeps, with_self, without_from, without_keeps, IsKeyed, Row, first_key, keys_with, keys_without, size_key, mapped_some, nat_tests}
 use Rattle.part_book.proofs.Rowed.{other_row, others}
 
 module _ (key_of : Row → Option Key) (rows : List Row) (row : Row) (keys : List Key) (i : IsKeyed key_of rows keys) where
@@ -49,9 +49,7 @@ module _ (key_of : Row → Option Key) (rows : List Row) (row : Row) (keys : Lis
           by (Some key) e = record {
             has = λ r k n is. (
                 let o = other_row row.number rows r n in
-                without_keeps keys key k (i.has r k o.0 is) (λ s.
-                let t = eq-eqb r.number row.number (own r key o.0 (is ∙ ap (λ x. Some x) s) e) in
-                let no : true ≡ false = sym t ∙ o.1 in cc));
+                without_keeps keys key k (i.has r k o.0 is) (λ s. o.1 (own r key o.0 (is ∙ ap (λ x. Some x) s) e)));
             from = λ k n. (
                 let o = without_from keys key k n in
                 let p = i.from k o.0 in
@@ -76,8 +74,4 @@ first_own r row k a b = grind (arith, a, b)
 
 -- extents with one key among the unused ones have one number
 pub size_own : (r row : Row) (k : Key) → r.number < 2 ^ 32 → row.number < 2 ^ 32 → size_key r ≡ Some k → size_key row ≡ Some k → r.number ≡ row.number
-size_own r row k small too a b =
-    let x = mapped_some (ranked_key r) (rank_of r.part.state) k a in
-    let y = mapped_some (ranked_key row) (rank_of row.part.state) k b in
-    let same : r.part.span.first * 2 ^ 32 + r.number ≡ row.part.span.first * 2 ^ 32 + row.number = ap (λ (z : Key). z.minor) (x.2 ∙ sym y.2) in
-    omega arith
+size_own r row k small too a b = grind (arith, nat_tests, mapped_some)

@@ -62,19 +62,10 @@ held_by_none parts page above = find_none (λ q. has_page page q.span) parts (λ
 
 -- a bound of 64 bits lies above all pages
 pub clamped : (parts : List Part) (p : Part) (page : ℕ) → IsApart parts → IsLastBelow (min page 18446744073709551615) parts p → IsLastBelow page parts p
-clamped parts p page apart last = record {
-  listed = last.listed;
-  below = omega arith;
-  last = all_from (λ q. q.span.first < page → q.span.first ≤ p.span.first) parts (λ q m l.
-      let inside = placed parts q apart m in
-      All-contains (λ q. q.span.first < min page 18446744073709551615 → q.span.first ≤ p.span.first) parts q last.last m (omega arith));
-}
+clamped parts p page apart last = grind (arith, nat_tests, all_from, placed)
 
 pub clamped_none : (parts : List Part) (page : ℕ) → IsApart parts → All (λ p. min page 18446744073709551615 ≤ p.span.first) parts → All (λ p. page ≤ p.span.first) parts
-clamped_none parts page apart above = all_from (λ p. page ≤ p.span.first) parts (λ q m.
-    let inside = placed parts q apart m in
-    let l = All-contains (λ p. min page 18446744073709551615 ≤ p.span.first) parts q above m in
-    omega arith)
+clamped_none parts page apart above = grind (arith, nat_tests, all_from, placed)
 
 -- the last extent that begins before a span ends meets it, or none does
 pub met_by_last : (parts : List Part) (s : Span) (p : Part) → IsApart parts → IsLastBelow (end_of s) parts p → list_any (λ q. meets q.span s) parts ≡ ltb s.first (end_of p.span)

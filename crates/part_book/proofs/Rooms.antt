@@ -1,5 +1,5 @@
 -- A table that was given room keeps its extents.
-use Rattle.part_book.proofs.Words.{◌≡◌, ℕ, ◌+◌, ◌<◌, ◌≤◌, eqb, ltb, map, count_by, vec_len, vec_capacity, sym, ap, ◌∙◌, subst, arith, refl, All, Contains, Part, Table, AgesGrow, IsKeyed, Row, first_key, part_at, row_at, size_key, HasRoomFor, IsRowTable, KeepsExtents, parts_of, rows_of, all_from, bit, map_has, map_same}
+use Rattle.part_book.proofs.Words.{◌≡◌, ℕ, ◌+◌, ◌<◌, ◌≤◌, eqb, ltb, count_by, vec_len, vec_capacity, sym, ap, ◌∙◌, subst, arith, refl, All, Table, AgesGrow, IsKeyed, first_key, part_at, size_key, HasRoomFor, IsRowTable, KeepsExtents, parts_of, rows_of, all_from, bit, nat_tests}
 use Rattle.part_book.proofs.Indexes.{IsLeafed, in_slot, in_slots, keeps}
 use Rattle.std.specs.FinMap as map_of
 
@@ -30,48 +30,36 @@ pub record IsLonger (t u : Table) : Type 0 where
   pub muzzy : vec_len u.slots ≤ u.muzzy.ages.places
   pub retained : vec_len u.slots ≤ u.retained.ages.places
 
--- the extents are the same
-same_rows : (t u : Table) → IsRowTable t (rows_of t) → IsSame t u → IsLonger t u → rows_of u ≡ rows_of t
-unfolding rows_of
-same_rows t u i a b =
-    let put : ℕ → Part → Row = λ n p. record { number = n; part = p } in
-    let within = λ (n : ℕ) (m : Contains t.order.numbers n). in_slots t (rows_of t) (row_at t.slots.items n) i.slots (map_has (row_at t.slots.items) t.order.numbers n m) in
-    ap (map (row_at u.slots.items)) a.order.numbers
-    ∙ map_same (row_at u.slots.items) (row_at t.slots.items) t.order.numbers (λ n m. ap (put n) (b.kept n (within n m)))
-
--- so the table keeps them
+-- so the table keeps its extents
 pub same_table : (t u : Table) → IsRowTable t (rows_of t) → IsSame t u → IsLonger t u → KeepsExtents u (parts_of t)
 same_table t u i a b =
     let x = i.indexes in
+    let l = x.lists in
     let rows = rows_of t in
-    let places = i.slots.places in
-    keeps u rows (same_rows t u i a b) (record {
+    keeps u rows (record {
       indexes = record {
         apart = x.apart;
         order = a.order.numbers ∙ x.order;
         places = b.order;
-        dirty = record { numbers = a.dirty.numbers ∙ x.dirty.numbers; pages = a.dirty_pages ∙ x.dirty.pages; places = b.dirty };
-        muzzy = record { numbers = a.muzzy.numbers ∙ x.muzzy.numbers; pages = a.muzzy_pages ∙ x.muzzy.pages; places = b.muzzy };
-        retained = record { numbers = a.retained.numbers ∙ x.retained.numbers; pages = a.retained_pages ∙ x.retained.pages; places = b.retained };
-        flights = b.flights ∙ x.flights;
+        lists = record {
+          dirty = record { numbers = a.dirty.numbers ∙ l.dirty.numbers; pages = a.dirty_pages ∙ l.dirty.pages; places = b.dirty };
+          muzzy = record { numbers = a.muzzy.numbers ∙ l.muzzy.numbers; pages = a.muzzy_pages ∙ l.muzzy.pages; places = b.muzzy };
+          retained = record { numbers = a.retained.numbers ∙ l.retained.numbers; pages = a.retained_pages ∙ l.retained.pages; places = b.retained };
+          flights = b.flights ∙ l.flights;
+          sizes = subst (IsKeyed size_key rows) (sym a.sizes) l.sizes;
+        };
         firsts = subst (IsKeyed first_key rows) (sym a.firsts) x.firsts;
-        sizes = subst (IsKeyed size_key rows) (sym a.sizes) x.sizes;
-        edges = λ page. ap (λ m. map_of.get m page) a.numbers ∙ x.edges page;
-        leaves = subst (λ chunks. All (IsLeafed chunks) rows) (sym a.chunks) x.leaves;
+        edges = record { numbers = λ page. ap (λ m. map_of.get m page) a.numbers ∙ x.edges.numbers page; leaves = subst (λ chunks. All (IsLeafed chunks) rows) (sym a.chunks) x.edges.leaves };
         slots = all_from (λ r. part_at u.slots.items r.number ≡ r.part) rows (λ r m. b.kept r.number (in_slots t rows r i.slots m) ∙ in_slot t rows r x m);
       };
-      slots = record { free = λ number. omega (arith, i.slots.free number, b.free number); places = omega (arith, b.places); small = b.small; room = b.room };
+      slots = record { free = λ number. omega (arith, i.slots.free number, b.free number); places = omega (arith, i.slots.places, b.places); small = b.small; room = b.room };
     })
 
 -- as long as the slots, the free numbers and the flights stay
 pub grown : (t u : Table) → IsRowTable t (rows_of t) → u.slots ≡ t.slots → u.free ≡ t.free → u.flights ≡ t.flights → IsSame t u → KeepsExtents u (parts_of t)
 grown t u i slots free flights a =
-    let x = i.indexes in
+    let l = i.indexes.lists in
     let len = ap (λ v. vec_len v) slots in
-    let order = x.places in
-    let dirty = x.dirty.places in
-    let muzzy = x.muzzy.places in
-    let retained = x.retained.places in
     same_table t u i a (record {
       flights = ap (λ v. v.items) flights;
       kept = λ number l. ap (λ v. part_at v.items number) slots;
@@ -79,16 +67,12 @@ grown t u i slots free flights a =
       places = rw (slots, free) refl;
       small = omega arith;
       room = rw (slots, free) i.slots.room;
-      order = omega (arith, a.order.places);
-      dirty = omega (arith, a.dirty.places);
-      muzzy = omega (arith, a.muzzy.places);
-      retained = omega (arith, a.retained.places);
+      order = omega (arith, i.indexes.places, a.order.places);
+      dirty = omega (arith, l.dirty.places, a.dirty.places);
+      muzzy = omega (arith, l.muzzy.places, a.muzzy.places);
+      retained = omega (arith, l.retained.places, a.retained.places);
     })
 
 -- room for some is room for fewer
 pub room_less : (t : Table) (m n : ℕ) → HasRoomFor t m → n ≤ m → HasRoomFor t n
-room_less t m n room le = record {
-  firsts = omega (arith, room.firsts);
-  free = omega (arith, room.free);
-  lists = record { sizes = omega (arith, room.lists.sizes); flights = omega (arith, room.lists.flights) };
-}
+room_less t m n room le = grind (arith, nat_tests)

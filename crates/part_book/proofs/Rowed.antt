@@ -1,5 +1,5 @@
 -- The extents of a table and their numbers: which are the same, and which share no page.
-use Rattle.part_book.proofs.Words.{◌≡◌, ℕ, ◌*◌, ◌≤◌, Bool, true, false, not, eqb, List, [], ◌∷◌, ◌++◌, filter, length, count_by, inl, inr, refl, sym, ap, ◌∙◌, subst, arith, All, Contains, cases_Bool, cases_lt, eq-eqb, eqb-true, false_from_ne_true, not-true, nat_tests, All-contains, All-filter, All-push, count_by-le-length, length-filter, sum_by-le, sum_by_push, filter_from, Part, IsPlaced, has_page, meets, pages_end, Rest, begins_at, is_listed, Table, IsApart, Row, pages_of_rows, IsSlotted, IsRowTable, all_from, bit, count_kept, count_map, count_none, filter_map_is, filter_same, map_from, map_has, only_one}
+use Rattle.part_book.proofs.Words.{◌≢◌, ◌≡◌, ℕ, ◌*◌, ◌≤◌, Bool, true, false, not, eqb, List, [], ◌∷◌, ◌++◌, filter, length, count_by, inl, inr, refl, sym, ap, ◌∙◌, subst, arith, All, Contains, cases_lt, eq-eqb, false_from_ne_true, not-true, nat_tests, All-contains, All-filter, All-push, count_by-le-length, length-filter, sum_by-le, sum_by_push, filter_from, Part, IsPlaced, has_page, meets, pages_end, Rest, begins_at, is_listed, Table, IsApart, Row, pages_of_rows, IsSlotted, IsRowTable, all_from, bit, count_kept, count_map, count_none, filter_map_is, filter_same, map_from, map_has, only_one}
 use Rattle.part_book.proofs.Indexes.{parts_in}
 use Rattle.part_book.proofs.Parts.{begins_has, placed}
 
@@ -33,8 +33,10 @@ one_number t rows x y i m n e = only_one (λ row. eqb row.number x.number) rows 
 abbrev pub others : ℕ → List Row → List Row
 others number rows = filter (λ row. not (eqb row.number number)) rows
 
-pub other_row : (number : ℕ) (rows : List Row) (x : Row) → Contains (others number rows) x → Contains rows x × (eqb x.number number ≡ false)
-other_row number rows x m = let p = filter_from (λ row. not (eqb row.number number)) rows x m in (p.0, not-true (eqb x.number number) p.1)
+pub other_row : (number : ℕ) (rows : List Row) (x : Row) → Contains (others number rows) x → Contains rows x × (x.number ≢ number)
+other_row number rows x m =
+    let p = filter_from (λ row. not (eqb row.number number)) rows x m in
+    (p.0, λ e. (let no : true ≡ false = sym (eq-eqb x.number number e) ∙ not-true (eqb x.number number) p.1 in cc))
 
 -- spans that meet share a page
 pub share_page : (p q : Part) → IsPlaced p.span → IsPlaced q.span → meets p.span q.span ≡ true → (page : ℕ) × (has_page page p.span ≡ true) × (has_page page q.span ≡ true)
@@ -99,6 +101,4 @@ others_apart t rows r i m = all_from (λ p. meets p.span r.part.span ≡ false) 
     let o = other_row r.number rows x.0 x.1 in
     ap (λ (q : Part). meets q.span r.part.span) (sym x.2) ∙ false_from_ne_true (meets x.0.part.span r.part.span) (λ t'.
     let page = share_page x.0.part r.part (row_placed rows x.0 i.indexes.apart o.0) (row_placed rows r i.indexes.apart m) t' in
-    let e = one_row rows i.indexes.apart page.0 r x.0 m o.0 page.2 page.1 in
-    let g : eqb x.0.number r.number ≡ true = eq-eqb x.0.number r.number (ap (λ (y : Row). y.number) e) in
-    cc))
+    absurd (o.1 (ap (λ (y : Row). y.number) (one_row rows i.indexes.apart page.0 r x.0 m o.0 page.2 page.1)))))

@@ -1,5 +1,5 @@
 -- The first key of a list that passes a test.
-use Rattle.part_book.proofs.Words.{◌≡◌, ◌<◌, zero, Bool, true, false, List, [], ◌∷◌, length, filter, find, Some, Ordering, Less, Equal, Greater, is_gt, inl, inr, refl, sym, ap, ◌∙◌, subst, arith, Every, IsStrictlySortedBy, ordering_reverse, cases_Bool, tied_itself, Key, key_cmp, IsAscending, is_above, key_total, every_map, every_member, filter_all, contains_cases, contains_later}
+use Rattle.part_book.proofs.Words.{◌≡◌, ◌<◌, zero, Bool, true, false, List, [], ◌∷◌, length, filter, find, Some, Less, Equal, Greater, is_gt, inl, inr, sym, ap, ◌∙◌, subst, arith, Every, IsStrictlySortedBy, ordering_reverse, cases_Bool, tied_itself, Key, key_cmp, IsAscending, is_above, key_total, every_map, every_member, filter_all, contains_cases, contains_later, nat_tests}
 use Rattle.std.specs.List.{Contains}
 
 -- it is listed, passes, and none below it passes
@@ -39,7 +39,4 @@ fewer_above (x ∷ xs) q y s e = elim (cases_Bool (is_above q x)) [
 ]
   where
     chain : (k : Key) → key_cmp x k ≡ Less → is_above q x ≡ true → is_above q k ≡ true
-    chain k l t = ap is_gt (key_total.antisymm k q ∙ ap ordering_reverse (key_total.trans q x k (key_total.antisymm q x ∙ ap ordering_reverse (greater (key_cmp x q) t)) l))
-      where
-        greater : (r : Ordering) → is_gt r ≡ true → r ≡ Greater
-        greater r f = grind (arith, f)
+    chain k l t = grind (arith, nat_tests, key_total)

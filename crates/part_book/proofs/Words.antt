@@ -45,8 +45,8 @@ pub use Rattle.part_book.specs.Books.{AreBeside, IsFirstFrom, ends_at}
 pub use Rattle.part_book.specs.Leaves.{HasMore, leaves_for, HasLeaves}
 unfoldable pub use Rattle.part_book.specs.Leaves.{missing}
 pub use Rattle.part_book.specs.Lists.{CanList, GainsRow, CanUnlist, LosesRow, AgesGrow}
-pub use Rattle.part_book.specs.Rows.{IsApart, IsKeyed, Row, first_key, is_edge, keys_with, listed_in, numbers_of, part_at, rank_of, ranked_key, row_at, size_key, with_edges, keys_without, without_edges, Own, key_span, pages_of_rows, rank, IsLastBelow, flights_in, no_part}
-pub use Rattle.part_book.specs.Tables.{CanLower, HasListRoom, IsIndexed, IsListOf, IsSlotted, IsRowTable, KeepsExtents, parts_of, IsRowAt, IsLifted, HasRoomFor}
+pub use Rattle.part_book.specs.Rows.{ArePieces, IsApart, IsKeyed, Row, first_key, is_edge, keys_with, listed_in, numbers_of, part_at, rank_of, ranked_key, row_at, size_key, with_edges, keys_without, without_edges, Own, key_span, pages_of_rows, rank, IsLastBelow, flights_in, no_part}
+pub use Rattle.part_book.specs.Tables.{CanEnter, CanLower, GainsLists, HasEdges, HasListRoom, HasRoomFor, HaveRows, IsIndexed, IsListOf, IsRowAt, IsRowTable, IsSlotted, KeepsExtents, KeepsOthers, Lists, LosesLists, lists_of, parts_of}
 unfoldable pub use Rattle.part_book.specs.Tables.{rows_of}
 pub use Rattle.part_book.specs.declared.table.AgeList.{AgeList}
 pub use Rattle.part_book.specs.declared.table.Table.{Table}

@@ -8,6 +8,8 @@ use Rattle.space_model.specs.declared.parts.Rest.TheVariants.{Dirty as ToDirty, 
 use Rattle.space_model.specs.Span.{IsPlaced, end_of}
 use Rattle.space_model.specs.Part.{begins_at}
 use Rattle.space_model.specs.Sound.{is_in_flight}
+use Rattle.ordered_set.specs.declared.key.Key.{Key}
+use Rattle.page_map.specs.Pages.{Pages}
 use Rattle.part_book.specs.declared.table.AgeList.{AgeList}
 use Rattle.part_book.specs.declared.table.Table.{Table}
 use Rattle.part_book.specs.Lists.{CanList, GainsRow, LosesRow}
@@ -27,19 +29,38 @@ pub record IsListOf (rest : Rest) (list : AgeList) (slots : ℕ) (rows : List Ro
   pub pages : list.pages ≡ pages_of_rows rest rows
   pub places : slots ≤ list.ages.places
 
+-- the lists of a table, and the keys of its unused extents
+pub record Lists : Type 0 where
+  pub dirty : AgeList
+  pub muzzy : AgeList
+  pub retained : AgeList
+  pub flights : List ℕ
+  pub sizes : List Key
+
+abbrev pub lists_of : Table → Lists
+lists_of t = record { dirty = t.dirty; muzzy = t.muzzy; retained = t.retained; flights = t.flights.items; sizes = t.sizes.keys }
+
+-- the lists have what they shall have of the extents, and places for so many numbers
+pub record HaveRows (l : Lists) (slots : ℕ) (rows : List Row) : Type 0 where
+  pub dirty : IsListOf ToDirty l.dirty slots rows
+  pub muzzy : IsListOf ToMuzzy l.muzzy slots rows
+  pub retained : IsListOf ToRetained l.retained slots rows
+  pub flights : l.flights ≡ flights_in rows
+  pub sizes : IsKeyed size_key rows l.sizes
+
+-- the first and the last page of each extent have its number, and lie in chunks that have leaves
+pub record HasEdges (edges : Pages) (rows : List Row) : Type 0 where
+  pub numbers : (page : ℕ) → map_of.get edges.numbers page ≡ option_map (λ row. row.number) (find (λ row. is_edge page row.part) rows)
+  pub leaves : All (λ row. (set.contains edges.chunks (row.part.span.first / 512) ≡ true) × (set.contains edges.chunks ((end_of row.part.span - 1) / 512) ≡ true)) rows
+
 -- each index has what it shall have of the extents
 pub record IsIndexed (t : Table) (rows : List Row) : Type 0 where
   pub apart : IsApart (map (λ row. row.part) rows)
   pub order : t.order.numbers ≡ numbers_of rows
   pub places : vec_len t.slots ≤ t.order.places
-  pub dirty : IsListOf ToDirty t.dirty (vec_len t.slots) rows
-  pub muzzy : IsListOf ToMuzzy t.muzzy (vec_len t.slots) rows
-  pub retained : IsListOf ToRetained t.retained (vec_len t.slots) rows
-  pub flights : t.flights.items ≡ flights_in rows
+  pub lists : HaveRows (lists_of t) (vec_len t.slots) rows
   pub firsts : IsKeyed first_key rows t.firsts.keys
-  pub sizes : IsKeyed size_key rows t.sizes.keys
-  pub edges : (page : ℕ) → map_of.get t.edges.numbers page ≡ option_map (λ row. row.number) (find (λ row. is_edge page row.part) rows)
-  pub leaves : All (λ row. (set.contains t.edges.chunks (row.part.span.first / 512) ≡ true) × (set.contains t.edges.chunks ((end_of row.part.span - 1) / 512) ≡ true)) rows
+  pub edges : HasEdges t.edges rows
   pub slots : All (λ row. part_at t.slots.items row.number ≡ row.part) rows
 
 -- each slot is free or has one extent
@@ -77,15 +98,24 @@ pub record IsRowAt (t : Table) (first : ℕ) (row : Row) : Type 0 where
 
 -- ---- the lists
 
--- the lists lack the extent, and the other indexes are as they were
-pub record IsLifted (t u : Table) (row : Row) : Type 0 where
-  pub order : u.order.numbers ≡ filter (λ n. not (n == row.number)) t.order.numbers
-  pub places : u.order.places ≡ t.order.places
-  pub dirty : LosesRow ToDirty t.dirty u.dirty row
-  pub muzzy : LosesRow ToMuzzy t.muzzy u.muzzy row
-  pub retained : LosesRow ToRetained t.retained u.retained row
-  pub sizes : u.sizes.keys ≡ keys_without t.sizes.keys (size_key row)
-  pub flights : u.flights.items ≡ cond (is_in_flight row.part.state) (filter (λ n. not (n == row.number)) t.flights.items) t.flights.items
+-- the lists lose the extent
+pub record LosesLists (l k : Lists) (row : Row) : Type 0 where
+  pub dirty : LosesRow ToDirty l.dirty k.dirty row
+  pub muzzy : LosesRow ToMuzzy l.muzzy k.muzzy row
+  pub retained : LosesRow ToRetained l.retained k.retained row
+  pub flights : k.flights ≡ cond (is_in_flight row.part.state) (filter (λ n. not (n == row.number)) l.flights) l.flights
+  pub sizes : k.sizes ≡ keys_without l.sizes (size_key row)
+
+-- the lists gain the extent
+pub record GainsLists (l k : Lists) (row : Row) : Type 0 where
+  pub dirty : GainsRow ToDirty l.dirty k.dirty row
+  pub muzzy : GainsRow ToMuzzy l.muzzy k.muzzy row
+  pub retained : GainsRow ToRetained l.retained k.retained row
+  pub flights : k.flights ≡ l.flights ++ cond (is_in_flight row.part.state) (row.number ∷ []) []
+  pub sizes : k.sizes ≡ keys_with l.sizes (size_key row)
+
+-- the indexes but the lists and the order are as they were
+pub record KeepsOthers (t u : Table) : Type 0 where
   pub firsts : u.firsts ≡ t.firsts
   pub edges : u.edges ≡ t.edges
   pub slots : u.slots ≡ t.slots
@@ -106,24 +136,3 @@ pub record CanLower (t : Table) (row : Row) : Type 0 where
   pub place : row.number < t.order.places
   pub new_number : All (λ n. n ≢ row.number) t.order.numbers
   pub lists : CanEnter t row
-
--- the lists have the extent besides, and the other indexes are as they were
-pub record IsLowered (t u : Table) (row : Row) : Type 0 where
-  pub order : u.order.numbers ≡ t.order.numbers ++ row.number ∷ []
-  pub places : u.order.places ≡ t.order.places
-  pub dirty : GainsRow ToDirty t.dirty u.dirty row
-  pub muzzy : GainsRow ToMuzzy t.muzzy u.muzzy row
-  pub retained : GainsRow ToRetained t.retained u.retained row
-  pub sizes : u.sizes.keys ≡ keys_with t.sizes.keys (size_key row)
-  pub flights : u.flights.items ≡ t.flights.items ++ cond (is_in_flight row.part.state) (row.number ∷ []) []
-  pub firsts : u.firsts ≡ t.firsts
-  pub edges : u.edges ≡ t.edges
-  pub slots : u.slots ≡ t.slots
-  pub free : u.free ≡ t.free
-
--- the table with its order alone changed: without a number, or with one more
-abbrev pub without_number : Table → ℕ → Table
-without_number t number = record t { order = record t.order { numbers = filter (λ n. not (n == number)) t.order.numbers } }
-
-abbrev pub with_number : Table → ℕ → Table
-with_number t number = record t { order = record t.order { numbers = t.order.numbers ++ number ∷ [] } }

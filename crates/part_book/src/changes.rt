@@ -8,7 +8,7 @@ ghost use Rattle.space_model.specs.Sound.{is_in_flight};
 ghost use Rattle.part_book.specs.Leaves.{HasLeaves, HasMore, leaves_for};
 ghost use Rattle.part_book.specs.Lists.{CanList, CanUnlist, GainsRow, LosesRow};
 ghost use Rattle.part_book.specs.Rows.{ArePieces, Own, keys_with, keys_without, with_edges, without_edges};
-ghost use Rattle.part_book.specs.Tables.{CanEnter, CanLower, HasListRoom, HasRoomFor, IsLifted, IsLowered, IsRowAt, IsRowTable, KeepsExtents, parts_of, rows_of, with_number, without_number};
+ghost use Rattle.part_book.specs.Tables.{CanEnter, CanLower, GainsLists, HasListRoom, HasRoomFor, IsRowAt, IsRowTable, KeepsExtents, KeepsOthers, LosesLists, lists_of, parts_of, rows_of};
 
 use crate::rows::{end_of, first_key, size_key};
 use crate::table::{AgeList, Table};
@@ -25,6 +25,7 @@ impl Table {
         ensures first { result.1.span.first ≡ first }
         ensures placed { IsPlaced result.1.span }
         ensures apart { All (λ p. meets p.span result.1.span ≡ false) (filter (λ p. not (begins_at first p)) (parts_of self.now)) }
+        ensures others { All (λ p. meets p.span result.1.span ≡ false) (filter (λ p. not (begins_at result.1.span.first p)) (parts_of self.now)) }
         ensures leaves { leaves_for self.now.edges result.1.span ≡ 0 }
     {
         let number = self.edges.get(first).unwrap();
@@ -126,7 +127,10 @@ impl Table {
     fn lift(&mut self, number: u32, part: &Part)
         requires table { IsRowTable self.old (rows_of self.old) }
         requires there { Contains (rows_of self.old) (record { number = number; part = part.now }) }
-        ensures lists { IsLifted self.old self.new (record { number = number; part = part.now }) }
+        ensures order { self.new.order.numbers ≡ filter (λ n. not (n == number)) self.old.order.numbers }
+        ensures places { self.new.order.places ≡ self.old.order.places }
+        ensures lists { LosesLists (lists_of self.old) (lists_of self.new) (record { number = number; part = part.now }) }
+        ensures others { KeepsOthers self.old self.new }
         ensures room { (n : ℕ) → HasListRoom self.old n → HasListRoom self.new (n + 1) }
     {
         self.leave(number, part);
@@ -137,7 +141,8 @@ impl Table {
     fn leave(&mut self, number: u32, part: &Part)
         requires table { IsRowTable self.old (rows_of self.old) }
         requires there { Contains (rows_of self.old) (record { number = number; part = part.now }) }
-        ensures lists { IsLifted self.old (without_number self.new number) (record { number = number; part = part.now }) }
+        ensures lists { LosesLists (lists_of self.old) (lists_of self.new) (record { number = number; part = part.now }) }
+        ensures others { KeepsOthers self.old self.new }
         ensures order { self.new.order ≡ self.old.order }
         ensures room { (n : ℕ) → HasListRoom self.old n → HasListRoom self.new n }
     {
@@ -156,7 +161,10 @@ impl Table {
     #[inline(always)]
     fn lower(&mut self, number: u32, part: &Part)
         requires { CanLower self.old (record { number = number; part = part.now }) }
-        ensures lists { IsLowered self.old self.new (record { number = number; part = part.now }) }
+        ensures order { self.new.order.numbers ≡ self.old.order.numbers ++ number ∷ [] }
+        ensures places { self.new.order.places ≡ self.old.order.places }
+        ensures lists { GainsLists (lists_of self.old) (lists_of self.new) (record { number = number; part = part.now }) }
+        ensures others { KeepsOthers self.old self.new }
         ensures room { (n : ℕ) → HasListRoom self.old (n + 1) → HasListRoom self.new n }
     {
         self.enter(number, part);
@@ -166,7 +174,8 @@ impl Table {
     // Puts an extent on what its state puts it on.
     fn enter(&mut self, number: u32, part: &Part)
         requires { CanEnter self.old (record { number = number; part = part.now }) }
-        ensures lists { IsLowered self.old (with_number self.new number) (record { number = number; part = part.now }) }
+        ensures lists { GainsLists (lists_of self.old) (lists_of self.new) (record { number = number; part = part.now }) }
+        ensures others { KeepsOthers self.old self.new }
         ensures order { self.new.order ≡ self.old.order }
         ensures room { (n : ℕ) → HasListRoom self.old n → HasListRoom self.new n }
     {

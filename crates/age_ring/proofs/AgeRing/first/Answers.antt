@@ -1,14 +1,12 @@
-use Rattle.std.proofs.Common.{◌≡◌, ◌-◌, map, slice_get, Some, sym, ap, ◌∙◌, arith, vec_len}
+use Rattle.std.proofs.lemmas.Bool.Decides.{nat_tests}
+use Rattle.std.proofs.Common.{◌-◌, slice_get, Some, sym, ap, ◌∙◌, arith, vec_len}
 use Rattle.age_ring.specs.Links.{walk}
-use Rattle.age_ring.specs.Rings.{ring_of}
 use Rattle.age_ring.proofs.Rings.{first_place}
 use Rattle.age_ring.proofs.AgeRing.first.Goals as goal
 
 pub returns-then-self-eq0 : goal.returns-then-self-eq0
 unfolding walk
-returns-then-self-eq0 c =
-    let none : c.self.inside.len ≡ 0 = omega arith in
-    ap (λ n. slice_get (map (λ k. k - 1) (ring_of c.self.inside.links.items n)) 0) (sym none) ∙ ap (λ v. slice_get v.numbers 0) c.self.view_is
+returns-then-self-eq0 c = grind (arith, nat_tests)
 
 pub link_at-requires : goal.link_at-requires
 link_at-requires c = (first_place c.self.inside.links.items c.self.inside.len (vec_len c.self.inside.links) c.self.invariant.ring (omega arith)).0

@@ -1,3 +1,4 @@
+use Rattle.std.proofs.Common.{rules}
 use Rattle.std.proofs.Common.{◌≡◌, ◌≢◌, ◌+◌, ◌-◌, [], ◌∷◌, ◌++◌, map, sym, ap, ◌∙◌, subst, arith, vec_len, All}
 use Rattle.std.proofs.lemmas.List.{map-append}
 use Rattle.age_ring.specs.Links.{next_of, prev_of}
@@ -13,10 +14,7 @@ join-requires-clause-before c =
     rw c.link_at-last.ensures last
 
 pub overflow_add-self : goal.overflow_add-self
-overflow_add-self c =
-    let links = c.self.inside.links.items in
-    let fits = ring_fits (next_of links) (prev_of links) (vec_len c.self.inside.links) (ring_of links c.self.inside.len) c.self.invariant.ring in
-    omega (arith, length-walk (next_of links) c.self.inside.len (next_of links 0))
+overflow_add-self c = search (rules, arith, length-walk, ring_fits)
 
 pub invariant_of-self : goal.invariant_of-self
 invariant_of-self c =

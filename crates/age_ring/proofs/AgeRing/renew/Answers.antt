@@ -1,7 +1,8 @@
-use Rattle.std.proofs.Common.{◌≡◌, ◌≢◌, ◌+◌, ◌-◌, true, false, [], ◌∷◌, ◌++◌, not, eqb, filter, map, sym, ap, ◌∙◌, subst, arith, vec_len, Contains}
+use Rattle.std.proofs.lemmas.Bool.Decides.{nat_tests}
+use Rattle.std.proofs.Common.{◌≡◌, ◌+◌, ◌-◌, [], ◌∷◌, ◌++◌, not, eqb, filter, map, sym, ap, ◌∙◌, subst, arith, vec_len, Contains}
 use Rattle.std.proofs.lemmas.Bool.{eq-eqb, not-true}
 use Rattle.std.proofs.lemmas.List.{map-append}
-use Rattle.std.proofs.lemmas.List.Elements.{All-weaker, filter_passes}
+use Rattle.std.proofs.lemmas.List.Elements.{filter_passes}
 use Rattle.age_ring.specs.Ages.{Ages}
 use Rattle.age_ring.specs.Links.{next_of, prev_of}
 use Rattle.age_ring.specs.Rings.{ring_of}
@@ -25,9 +26,7 @@ push-requires-clause-place c =
     omega arith
 
 pub push-requires-clause-new_number : goal.push-requires-clause-new_number
-push-requires-clause-new_number c =
-    rw c.remove.ensures.numbers (All-weaker (λ n. not (eqb n c.args.number) ≡ true) (λ n. n ≢ c.args.number) (λ n t e. (let no : true ≡ false = sym (eq-eqb n c.args.number e) ∙ not-true (eqb n c.args.number) t in cc)) _
-    (filter_passes (λ n. not (eqb n c.args.number)) c.args.self.now.numbers))
+push-requires-clause-new_number c = grind (arith, nat_tests, eq-eqb, filter_passes, not-true)
 
 pub returns-else-link_at-number-clause-numbers : goal.returns-else-link_at-number-clause-numbers
 returns-else-link_at-number-clause-numbers c =

@@ -1,8 +1,6 @@
-use Rattle.ordered_set.proofs.Words.{slice_get, sym, ap, ◌∙◌, find, all_keys, is_from}
+use Rattle.ordered_set.proofs.Words.{nat_tests, arith}
 use Rattle.ordered_set.proofs.Sorted.{find_is}
 use Rattle.ordered_set.proofs.OrderedSet.at_or_after.Goals as goal
 
 pub returns-clause-found : goal.returns-clause-found
-returns-clause-found c =
-    c.key_from.ensures ∙ ap (λ ks. slice_get ks 0) c.place_of.ensures.from
-    ∙ sym (find_is (is_from c.args.key) (all_keys c.self.inside.index.blocks.items)) ∙ ap (λ s. find (is_from c.args.key) s.keys) c.self.view_is
+returns-clause-found c = grind (arith, nat_tests, find_is)

@@ -1,29 +1,22 @@
 use Rattle.part_book.proofs.Words.{◌≡◌, ◌+◌, ◌-◌, ◌*◌, ◌/◌, not, filter, find, sym, ap, ◌∙◌, subst, arith, end_of, begins_at, high_piece, HasRoomFor, parts_of}
-use Rattle.part_book.proofs.Changed.{cut_parts, high_apart, low_apart, low_placed, others_from}
+use Rattle.part_book.proofs.Changed.{high_apart, low_apart}
 use Rattle.part_book.proofs.Chunks.{leaves_first, leaves_last, leaves_none}
 use Rattle.part_book.proofs.Rooms.{room_less}
 use Rattle.part_book.proofs.PartBook.cut.Goals as goal
-
-pub exchange-requires-clause-placed : goal.exchange-requires-clause-placed
-exchange-requires-clause-placed c =
-    let fewer = rw (sym (ap (λ b. find (begins_at c.args.first) b.parts) c.self.view_is) ∙ c.extent_at-number.ensures.at.found) at c.requires.fewer in
-    rw c.low_piece.ensures (low_placed c.args.left c.extent_at-number.result.1 c.extent_at-number.ensures.placed c.requires.some fewer)
 
 pub exchange-requires-clause-apart : goal.exchange-requires-clause-apart
 exchange-requires-clause-apart c =
     let p = c.extent_at-number.result.1 in
     let at = c.extent_at-number.ensures in
     let fewer = rw (sym (ap (λ b. find (begins_at c.args.first) b.parts) c.self.view_is) ∙ at.at.found) at c.requires.fewer in
-    let others = others_from (parts_of c.self.inside.table) c.args.first p.span.first p at.first at.apart in
-    rw c.low_piece.ensures (low_apart c.args.left p (filter (λ x. not (begins_at p.span.first x)) (parts_of c.self.inside.table)) fewer others)
+    rw c.low_piece.ensures (low_apart c.args.left p (filter (λ x. not (begins_at p.span.first x)) (parts_of c.self.inside.table)) fewer at.others)
 
 pub put_on-requires-clause-apart : goal.put_on-requires-clause-apart
 put_on-requires-clause-apart c =
     let p = c.extent_at-number.result.1 in
     let at = c.extent_at-number.ensures in
     let fewer = rw (sym (ap (λ b. find (begins_at c.args.first) b.parts) c.self.view_is) ∙ at.at.found) at c.requires.fewer in
-    let others = others_from (parts_of c.self.inside.table) c.args.first p.span.first p at.first at.apart in
-    rw c.high_piece.ensures (high_apart c.args.left p _ (filter (λ x. not (begins_at p.span.first x)) (parts_of c.self.inside.table)) (parts_of c.exchange.new.self) fewer others (ap (λ q. q.span) c.low_piece.ensures) c.exchange.ensures.kept.parts)
+    rw c.high_piece.ensures (high_apart c.args.left p _ (filter (λ x. not (begins_at p.span.first x)) (parts_of c.self.inside.table)) (parts_of c.exchange.new.self) fewer at.others (ap (λ q. q.span) c.low_piece.ensures) c.exchange.ensures.kept.parts)
 
 pub put_on-requires-clause-room : goal.put_on-requires-clause-room
 put_on-requires-clause-room c =
@@ -51,7 +44,3 @@ invariant_of-self c =
       room = c.put_on.ensures.room (n - 1) (subst (HasRoomFor u) back (c.exchange.ensures.room n c.self.invariant.room));
       leaves = c.put_on.ensures.leaves (2 * (n - 1)) (omega arith);
     }
-
-pub returns-clause-parts : goal.returns-clause-parts
-returns-clause-parts c =
-    cut_parts (parts_of c.self.inside.table) _ (parts_of c.exchange.new.self) _ c.args.first _ c.args.left c.extent_at-number.result.1 c.low_piece.result c.high_piece.result _ _ (ap (λ b. b.parts) c.self.view_is) c.extent_at-number.ensures.at.found c.extent_at-number.ensures.first c.exchange.ensures.kept.parts c.put_on.ensures.kept.parts c.low_piece.ensures c.high_piece.ensures

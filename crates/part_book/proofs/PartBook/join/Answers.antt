@@ -1,21 +1,14 @@
-use Rattle.part_book.proofs.Words.{◌+◌, ◌*◌, find, refl, sym, ap, ◌∙◌, subst, arith, IsSome, begins_at, parts_of}
-use Rattle.part_book.proofs.Changed.{join_parts, joined_apart, joined_leaves, joined_placed, others_from, pair, pair_is}
+use Rattle.part_book.proofs.Words.{nat_tests, ◌+◌, ◌*◌, ap, arith, parts_of}
+use Rattle.part_book.proofs.Changed.{join_parts, joined_apart, joined_leaves, joined_placed, pair, pair_is}
 use Rattle.part_book.proofs.Chunks.{more_leaves}
 use Rattle.part_book.proofs.Rooms.{room_less}
 use Rattle.part_book.proofs.PartBook.join.Goals as goal
 
 pub extent_at-number-requires-clause-begins : goal.extent_at-number-requires-clause-begins
-extent_at-number-requires-clause-begins c =
-    let high = c.take_off-high.ensures in
-    let low = pair c.args.low c.args.high _ _ _ (ap (λ x. x.parts) c.self.view_is) c.requires.low c.requires.beside high.part c.self.invariant.table.indexes.apart in
-    subst IsSome (sym (ap (find (begins_at c.args.low)) high.kept.parts ∙ low.1.later)) refl
+extent_at-number-requires-clause-begins c = grind (arith, nat_tests, pair)
 
 pub exchange-requires-clause-placed : goal.exchange-requires-clause-placed
-exchange-requires-clause-placed c =
-    let high = c.take_off-high.ensures in
-    let low = c.extent_at-number.ensures in
-    let both = pair_is c.args.low c.args.high _ _ _ _ _ (ap (λ x. x.parts) c.self.view_is) c.requires.low c.requires.beside high.part c.self.invariant.table.indexes.apart high.kept.parts low.at.found in
-    joined_placed c.extent_at-number.result.1 c.take_off-high.result low.placed high.placed both.beside
+exchange-requires-clause-placed c = grind (arith, nat_tests, joined_placed, pair_is)
 
 pub exchange-requires-clause-apart : goal.exchange-requires-clause-apart
 exchange-requires-clause-apart c =
@@ -24,14 +17,10 @@ exchange-requires-clause-apart c =
     let p = c.extent_at-number.result.1 in
     let t = c.take_off-high.new.self in
     let both = pair_is c.args.low c.args.high _ _ _ _ _ (ap (λ x. x.parts) c.self.view_is) c.requires.low c.requires.beside high.part c.self.invariant.table.indexes.apart high.kept.parts low.at.found in
-    joined_apart (parts_of t) p.span.first p c.take_off-high.result high.kept.table.indexes.apart both.beside (others_from (parts_of t) c.args.low p.span.first p low.first low.apart) high.apart
+    joined_apart (parts_of t) p.span.first p c.take_off-high.result high.kept.table.indexes.apart both.beside low.others high.apart
 
 pub exchange-requires-clause-leaves : goal.exchange-requires-clause-leaves
-exchange-requires-clause-leaves c =
-    let high = c.take_off-high.ensures in
-    let low = c.extent_at-number.ensures in
-    let both = pair_is c.args.low c.args.high _ _ _ _ _ (ap (λ x. x.parts) c.self.view_is) c.requires.low c.requires.beside high.part c.self.invariant.table.indexes.apart high.kept.parts low.at.found in
-    omega (arith, joined_leaves c.take_off-high.new.self.edges c.extent_at-number.result.1 c.take_off-high.result both.beside low.leaves high.leaves)
+exchange-requires-clause-leaves c = grind (arith, nat_tests, joined_leaves, pair_is)
 
 pub invariant_of-self : goal.invariant_of-self
 invariant_of-self c =

@@ -1,9 +1,5 @@
-use Rattle.part_book.proofs.Words.{◌≡◌, ◌+◌, ◌-◌, ◌*◌, ap, subst, arith, HasRoomFor, parts_of}
-use Rattle.part_book.proofs.Changed.{others_from}
+use Rattle.part_book.proofs.Words.{◌≡◌, ◌+◌, ◌-◌, ◌*◌, ap, subst, arith, HasRoomFor}
 use Rattle.part_book.proofs.PartBook.shed.Goals as goal
-
-pub divide-requires-clause-apart : goal.divide-requires-clause-apart
-divide-requires-clause-apart c = others_from (parts_of c.self.inside.table) c.args.first _ c.extent_at-number.result.1 c.extent_at-number.ensures.first c.extent_at-number.ensures.apart
 
 pub invariant_of-self : goal.invariant_of-self
 invariant_of-self c =

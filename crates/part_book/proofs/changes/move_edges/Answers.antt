@@ -1,4 +1,4 @@
-use Rattle.part_book.proofs.Words.{◌≡◌, ℕ, ◌+◌, ◌-◌, ◌/◌, true, cond, sym, ap, ◌∙◌, subst, arith, nat_cmp, Pages, Span, IsPlaced, end_of, HasLeaves, HasMore, leaves_for, no_part, with_edges, without_edges}
+use Rattle.part_book.proofs.Words.{nat_tests, ◌≡◌, ℕ, ◌+◌, ◌-◌, ◌/◌, true, cond, sym, ap, ◌∙◌, subst, arith, nat_cmp, Pages, Span, IsPlaced, end_of, HasLeaves, HasMore, leaves_for, no_part, with_edges, without_edges}
 use Rattle.part_book.proofs.Changed.{moved, moved_up, own_again, same_span}
 use Rattle.part_book.proofs.Chunks.{chunk_inside, contains_kept, contains_new, has_leaf, leaves_after}
 use Rattle.std.specs.FinMap as map_of
@@ -7,11 +7,7 @@ use Rattle.part_book.proofs.changes.move_edges.Goals as goal
 
 -- chunks keep their leaves, and that of the last page has one
 more : (old new : set.FinSet nat_cmp) (from to : Span) → to.first ≡ from.first → set.contains old (from.first / 512) ≡ true → new ≡ set.insert old ((end_of to - 1) / 512) → HasMore old new to
-more old new from to first leaf e = record {
-  kept = λ chunk t. rw e (contains_kept old ((end_of to - 1) / 512) chunk t);
-  first = subst (λ page. set.contains new (page / 512) ≡ true) (sym first) (rw e (contains_kept old ((end_of to - 1) / 512) (from.first / 512) leaf));
-  last = rw e (contains_new old ((end_of to - 1) / 512));
-}
+more old new from to first leaf e = grind (arith, nat_tests, contains_kept, contains_new)
 
 -- and no more than this leaf was taken
 left : (old new : Pages) (to : Span) (n : ℕ) → IsPlaced to → new.chunks ≡ set.insert old.chunks ((end_of to - 1) / 512) → new.spare ≡ cond (set.contains old.chunks ((end_of to - 1) / 512)) old.spare (old.spare - 1) →
@@ -25,9 +21,7 @@ set-requires-clause-room c =
     rw c.end_of.ensures (has_leaf c.args.edges.now ((end_of to - 1) / 512) 0 (chunk_inside to c.requires.to).1 (omega arith))
 
 pub returns-then-from-gt1-clause-numbers : goal.returns-then-from-gt1-clause-numbers
-returns-then-from-gt1-clause-numbers c page =
-    ap (λ e. map_of.get e.numbers page) c.clear.ensures
-    ∙ rw (c.set.ensures.number, c.end_of.ensures, c.end_of-then-from-gt1.ensures) (moved c.args.edges.now.numbers c.args.from c.args.to c.args.number page c.requires.from c.requires.to c.requires.first (λ e. omega arith) c.requires.own.first (omega arith))
+returns-then-from-gt1-clause-numbers c page = grind (arith, nat_tests, moved)
 
 pub returns-then-from-gt1-clause-chunks : goal.returns-then-from-gt1-clause-chunks
 returns-then-from-gt1-clause-chunks c =
@@ -38,8 +32,7 @@ returns-then-from-gt1-clause-leaves c n has =
     left c.args.edges.now c.clear.new.self c.args.to n c.requires.to (ap (λ e. e.chunks) c.clear.ensures ∙ rw c.end_of.ensures at c.set.ensures.leaf) (ap (λ e. e.spare) c.clear.ensures ∙ rw c.end_of.ensures at c.set.ensures.spare) has
 
 pub returns-else-from-gt1-clause-numbers : goal.returns-else-from-gt1-clause-numbers
-returns-else-from-gt1-clause-numbers c page =
-    rw (c.set.ensures.number, c.end_of.ensures) (moved_up c.args.edges.now.numbers c.args.from c.args.to c.args.number page c.requires.from c.requires.to c.requires.first c.requires.own.first (omega arith))
+returns-else-from-gt1-clause-numbers c page = grind (arith, nat_tests, moved_up)
 
 pub returns-else-from-gt1-clause-chunks : goal.returns-else-from-gt1-clause-chunks
 returns-else-from-gt1-clause-chunks c = more _ _ c.args.from c.args.to c.requires.first c.requires.own.first_leaf (rw c.end_of.ensures at c.set.ensures.leaf)

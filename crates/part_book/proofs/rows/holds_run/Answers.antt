@@ -6,8 +6,3 @@ pub returns-then-skipped-held : goal.returns-then-skipped-held
 returns-then-skipped-held c =
     let next = next_multiple (c.args.key.minor / 2 ^ 32) c.args.align c.pages_to_multiple-skipped.result c.requires c.pages_to_multiple-skipped.ensures.multiple c.pages_to_multiple-skipped.ensures.least in
     grind (arith, nat_tests)
-
-pub returns-else-skipped-held : goal.returns-else-skipped-held
-returns-else-skipped-held c =
-    let next = next_multiple (c.args.key.minor / 2 ^ 32) c.args.align c.pages_to_multiple-skipped.result c.requires c.pages_to_multiple-skipped.ensures.multiple c.pages_to_multiple-skipped.ensures.least in
-    grind (arith, nat_tests)

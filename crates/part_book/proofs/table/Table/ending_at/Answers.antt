@@ -1,5 +1,5 @@
 use Rattle.std.specs.Option.{option_copied}
-use Rattle.part_book.proofs.Words.{◌≡◌, ◌+◌, sym, ap, ◌∙◌, arith, nat_tests, is_edge, parts_of, found}
+use Rattle.part_book.proofs.Words.{◌≡◌, ◌+◌, sym, ap, ◌∙◌, arith, nat_tests, parts_of, found}
 use Rattle.part_book.proofs.Parts.{ends_by_edge, none_ends, placed}
 use Rattle.part_book.proofs.table.Table.ending_at.Goals as goal
 
@@ -12,9 +12,7 @@ returns-in_err-part c =
     ap option_copied c.from_residual-in_err-part.ensures ∙ sym (ends_by_edge (parts_of c.args.self.now) _ _ next c.requires.table.indexes.apart _ (sym c.in_err-part.ensures))
 
 pub end_of-requires : goal.end_of-requires
-end_of-requires c =
-    let parts = parts_of c.args.self.now in
-    placed parts c.in_ok-part.part.now c.requires.table.indexes.apart (found (is_edge c.in_ok-checked_sub.field-0) parts c.in_ok-part.part.now (sym c.in_ok-part.ensures)).0
+end_of-requires c = grind (arith, nat_tests, found, placed)
 
 pub returns-then-end_of-page : goal.returns-then-end_of-page
 returns-then-end_of-page c =

@@ -1,11 +1,7 @@
 use Rattle.part_book.proofs.Words.{sym, ap, ◌∙◌, Some, slice_get, rows_of}
-use Rattle.part_book.proofs.Fitting.{first_row, no_first}
+use Rattle.part_book.proofs.Fitting.{first_row}
 use Rattle.part_book.proofs.Indexes.{slot_of}
 use Rattle.part_book.proofs.table.Table.first.Goals as goal
-
-pub returns-in_err-number : goal.returns-in_err-number
-returns-in_err-number c =
-    c.from_residual.ensures ∙ sym (no_first (rows_of c.args.self.now) (sym (c.in_err-number.ensures ∙ ap (λ ns. slice_get ns 0) c.requires.table.indexes.order)))
 
 pub part_at-requires : goal.part_at-requires
 part_at-requires c =

@@ -1,4 +1,4 @@
-use Rattle.part_book.proofs.Words.{sym, subst, ◌∙◌, arith, IsFirstFrom, parts_of, rows_of}
+use Rattle.part_book.proofs.Words.{nat_tests, sym, arith, rows_of}
 use Rattle.part_book.proofs.Indexes.{no_row_from, row_from, slot_of}
 use Rattle.part_book.proofs.table.Table.first_from.Goals as goal
 
@@ -17,7 +17,4 @@ part_at-requires c =
     (slot_of c.args.self.now _ r.0 c.requires.table r.1 r.2).0
 
 pub returns-clause-first : goal.returns-clause-first
-returns-clause-first c =
-    let r = row_from (rows_of c.args.self.now) _ c.args.page _ c.requires.table.indexes.firsts c.in_ok-key.ensures.ascending (sym c.in_ok-key.ensures.found) in
-    let part = sym (c.part_at.ensures ∙ (slot_of c.args.self.now _ r.0 c.requires.table r.1 r.2).1) in
-    subst (IsFirstFrom c.args.page (parts_of c.args.self.now)) part r.3
+returns-clause-first c = grind (arith, nat_tests, row_from, slot_of)

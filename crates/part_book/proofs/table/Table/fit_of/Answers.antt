@@ -11,26 +11,17 @@ returns-then-list_of-pages c =
     let i = c.requires.table in
     let pages = c.list_of.ensures.pages in
     let few : pages_of_rows c.args.rest (rows_of t) < c.args.pages = grind (arith, nat_tests) in
-    sym (too_few c.args.rest (rows_of t) t.sizes.keys c.args.pages c.args.align i.indexes.apart (small_numbers t (rows_of t) i.slots) i.indexes.sizes c.requires.aligned few)
+    sym (too_few c.args.rest (rows_of t) t.sizes.keys c.args.pages c.args.align i.indexes.apart (small_numbers t (rows_of t) i.slots) i.indexes.lists.sizes c.requires.aligned few)
 
 pub overflow_add-start : goal.overflow_add-start
-overflow_add-start c =
-    let t = c.args.self.now in
-    let i = c.requires.table in
-    let most = pages_most c.args.rest (rows_of t) i.indexes.apart in
-    let pages = c.list_of.ensures.pages in
-    let small = i.slots.small in
-    let places = i.slots.places in
-    let r = c.rank-rank.ensures.small in
-    let test = c.if-list_of-pages.false in
-    grind (arith, nat_tests)
+overflow_add-start c = grind (arith, nat_tests, pages_most)
 
 pub returns-in_err-size : goal.returns-in_err-size
 returns-in_err-size c =
     let t = c.args.self.now in
     let i = c.requires.table in
     let none = none_at_start c.rank-rank.result c.args.pages c.args.align t.sizes.keys c.requires.aligned (sym c.in_err-size.ensures.found) in
-    c.from_residual.ensures ∙ sym (none_fits c.args.rest (rows_of t) t.sizes.keys c.args.pages c.args.align i.indexes.apart (small_numbers t (rows_of t) i.slots) i.indexes.sizes c.requires.aligned (rw c.rank-rank.ensures.value at none))
+    c.from_residual.ensures ∙ sym (none_fits c.args.rest (rows_of t) t.sizes.keys c.args.pages c.args.align i.indexes.apart (small_numbers t (rows_of t) i.slots) i.indexes.lists.sizes c.requires.aligned (rw c.rank-rank.ensures.value at none))
 
 pub loop-size-init : goal.loop-size-init
 loop-size-init c = begins c.rank-rank.result c.args.pages c.args.align c.args.self.now.sizes.keys c.in_ok-size.size c.requires.aligned c.at_or_after.ensures.ascending (sym c.in_ok-size.ensures.found)
@@ -41,7 +32,7 @@ part_at-requires c =
     let i = c.requires.table in
     let r = c.rank-rank.ensures.value in
     let yes = serves_both c.rank-rank.result c.args.pages c.args.align c.loop-size.size c.loop-size-test.true (sym c.holds_run.ensures ∙ c.if-holds_run.true) in
-    let p = fits c.args.rest (rows_of t) t.sizes.keys c.args.pages c.args.align i.indexes.apart (small_numbers t (rows_of t) i.slots) i.indexes.sizes c.requires.aligned c.loop-size.size
+    let p = fits c.args.rest (rows_of t) t.sizes.keys c.args.pages c.args.align i.indexes.apart (small_numbers t (rows_of t) i.slots) i.indexes.lists.sizes c.requires.aligned c.loop-size.size
     (subst (λ n. IsWalk t.sizes.keys c.loop-size.size n c.args.pages c.args.align) r c.loop-size.invariant) (subst (λ n. serves n c.args.pages c.args.align c.loop-size.size ≡ true) r yes) in
     (slot_of t (rows_of t) p.0 i p.1 p.2).0
 
@@ -51,7 +42,7 @@ returns-then-holds_run c =
     let i = c.requires.table in
     let r = c.rank-rank.ensures.value in
     let yes = serves_both c.rank-rank.result c.args.pages c.args.align c.loop-size.size c.loop-size-test.true (sym c.holds_run.ensures ∙ c.if-holds_run.true) in
-    let p = fits c.args.rest (rows_of t) t.sizes.keys c.args.pages c.args.align i.indexes.apart (small_numbers t (rows_of t) i.slots) i.indexes.sizes c.requires.aligned c.loop-size.size
+    let p = fits c.args.rest (rows_of t) t.sizes.keys c.args.pages c.args.align i.indexes.apart (small_numbers t (rows_of t) i.slots) i.indexes.lists.sizes c.requires.aligned c.loop-size.size
     (subst (λ n. IsWalk t.sizes.keys c.loop-size.size n c.args.pages c.args.align) r c.loop-size.invariant) (subst (λ n. serves n c.args.pages c.args.align c.loop-size.size ≡ true) r yes) in
     ap (λ q. Some q) (c.part_at.ensures ∙ (slot_of t (rows_of t) p.0 i p.1 p.2).1) ∙ sym p.3
 
@@ -61,19 +52,17 @@ returns-in_err-size-2 c =
     let i = c.requires.table in
     let no = serves_not c.rank-rank.result c.args.pages c.args.align c.loop-size.size (sym c.holds_run.ensures ∙ c.if-holds_run.false) in
     let none = none_after c.rank-rank.result c.args.pages c.args.align t.sizes.keys c.loop-size.size c.loop-size.invariant no (sym c.in_err-size-2.ensures.found) in
-    c.from_residual-in_err-size-2.ensures ∙ sym (none_fits c.args.rest (rows_of t) t.sizes.keys c.args.pages c.args.align i.indexes.apart (small_numbers t (rows_of t) i.slots) i.indexes.sizes c.requires.aligned (rw c.rank-rank.ensures.value at none))
+    c.from_residual-in_err-size-2.ensures ∙ sym (none_fits c.args.rest (rows_of t) t.sizes.keys c.args.pages c.args.align i.indexes.apart (small_numbers t (rows_of t) i.slots) i.indexes.lists.sizes c.requires.aligned (rw c.rank-rank.ensures.value at none))
 
 pub loop-size-smaller : goal.loop-size-smaller
 loop-size-smaller c = fewer_above c.args.self.now.sizes.keys c.loop-size.size c.in_ok-size-2.size c.after.ensures.ascending (sym c.in_ok-size-2.ensures.found)
 
 pub loop-size-preserved : goal.loop-size-preserved
-loop-size-preserved c =
-    let no = serves_not c.rank-rank.result c.args.pages c.args.align c.loop-size.size (sym c.holds_run.ensures ∙ c.if-holds_run.false) in
-    goes_on c.rank-rank.result c.args.pages c.args.align c.args.self.now.sizes.keys c.loop-size.size c.in_ok-size-2.size c.after.ensures.ascending c.loop-size.invariant no (sym c.in_ok-size-2.ensures.found)
+loop-size-preserved c = grind (arith, nat_tests, goes_on, serves_not)
 
 pub returns : goal.returns
 returns c =
     let t = c.args.self.now in
     let i = c.requires.table in
     let none = none_of_others c.rank-rank.result c.args.pages c.args.align t.sizes.keys c.loop-size.size c.loop-size.invariant c.loop-size-test.false in
-    sym (none_fits c.args.rest (rows_of t) t.sizes.keys c.args.pages c.args.align i.indexes.apart (small_numbers t (rows_of t) i.slots) i.indexes.sizes c.requires.aligned (rw c.rank-rank.ensures.value at none))
+    sym (none_fits c.args.rest (rows_of t) t.sizes.keys c.args.pages c.args.align i.indexes.apart (small_numbers t (rows_of t) i.slots) i.indexes.lists.sizes c.requires.aligned (rw c.rank-rank.ensures.value at none))

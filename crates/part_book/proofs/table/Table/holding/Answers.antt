@@ -1,13 +1,10 @@
 use Rattle.std.specs.Option.{option_copied}
 use Rattle.part_book.proofs.Words.{◌+◌, sym, ap, ◌∙◌, refl, arith, nat_tests, parts_of}
-use Rattle.part_book.proofs.Parts.{clamped, clamped_none, held_by_edge, held_by_last, held_by_none, placed}
+use Rattle.part_book.proofs.Parts.{clamped, clamped_none, held_by_edge, held_by_last, held_by_none}
 use Rattle.part_book.proofs.table.Table.holding.Goals as goal
 
 pub returns-in-Some : goal.returns-in-Some
 returns-in-Some c = sym (held_by_edge (parts_of c.args.self.now) c.args.page c.in-Some.part.now c.requires.table.indexes.apart (sym c.at_edge.ensures ∙ ap option_copied c.in-Some.is))
-
-pub end_of-requires : goal.end_of-requires
-end_of-requires c = placed (parts_of c.args.self.now) c.in_ok-part.part.now c.requires.table.indexes.apart c.in_ok-part.ensures.last.listed
 
 pub returns-in_err-part : goal.returns-in_err-part
 returns-in_err-part c =

@@ -1,4 +1,4 @@
-use Rattle.part_book.proofs.Words.{sym, subst, ◌∙◌, arith, IsLastBelow, parts_of, rows_of}
+use Rattle.part_book.proofs.Words.{nat_tests, sym, arith, rows_of}
 use Rattle.part_book.proofs.Indexes.{last_row, no_row, slot_of}
 use Rattle.part_book.proofs.table.Table.last_below.Goals as goal
 
@@ -17,7 +17,4 @@ part_at-requires c =
     (slot_of c.args.self.now _ r.0 c.requires.table r.1 r.2).0
 
 pub returns-clause-last : goal.returns-clause-last
-returns-clause-last c =
-    let r = last_row (rows_of c.args.self.now) _ c.args.page _ c.requires.table.indexes.firsts c.in_ok-key.ensures.ascending (sym c.in_ok-key.ensures.found) in
-    let part = sym (c.part_at.ensures ∙ (slot_of c.args.self.now _ r.0 c.requires.table r.1 r.2).1) in
-    subst (IsLastBelow c.args.page (parts_of c.args.self.now)) part r.3
+returns-clause-last c = grind (arith, nat_tests, last_row, slot_of)

@@ -4,16 +4,16 @@ use Rattle.part_book.proofs.Rowed.{row_placed}
 use Rattle.part_book.proofs.table.Table.leave.Goals as goal
 
 pub unlist-requires-clause-dirty : goal.unlist-requires-clause-dirty
-unlist-requires-clause-dirty c = can_unlist c.args.self.now (rows_of c.args.self.now) _ c.requires.table c.requires.there ToDirty _ c.requires.table.indexes.dirty
+unlist-requires-clause-dirty c = can_unlist c.args.self.now (rows_of c.args.self.now) _ c.requires.table c.requires.there ToDirty _ c.requires.table.indexes.lists.dirty
 
 pub unlist-requires-clause-muzzy : goal.unlist-requires-clause-muzzy
-unlist-requires-clause-muzzy c = can_unlist c.args.self.now (rows_of c.args.self.now) _ c.requires.table c.requires.there ToMuzzy _ c.requires.table.indexes.muzzy
+unlist-requires-clause-muzzy c = can_unlist c.args.self.now (rows_of c.args.self.now) _ c.requires.table c.requires.there ToMuzzy _ c.requires.table.indexes.lists.muzzy
 
 pub unlist-requires-clause-retained : goal.unlist-requires-clause-retained
-unlist-requires-clause-retained c = can_unlist c.args.self.now (rows_of c.args.self.now) _ c.requires.table c.requires.there ToRetained _ c.requires.table.indexes.retained
+unlist-requires-clause-retained c = can_unlist c.args.self.now (rows_of c.args.self.now) _ c.requires.table c.requires.there ToRetained _ c.requires.table.indexes.lists.retained
 
 pub unlist-requires-clause-flights : goal.unlist-requires-clause-flights
-unlist-requires-clause-flights c = rw c.requires.table.indexes.flights (once c.args.self.now (rows_of c.args.self.now) _ c.requires.table c.requires.there (λ r. is_in_flight r.part.state))
+unlist-requires-clause-flights c = rw c.requires.table.indexes.lists.flights (once c.args.self.now (rows_of c.args.self.now) _ c.requires.table c.requires.there (λ r. is_in_flight r.part.state))
 
 pub size_key-requires : goal.size_key-requires
 size_key-requires c = row_placed (rows_of c.args.self.now) _ c.requires.table.indexes.apart c.requires.there

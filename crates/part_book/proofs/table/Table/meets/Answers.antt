@@ -1,9 +1,6 @@
 use Rattle.part_book.proofs.Words.{◌≤◌, ltb, sym, ap, subst, ◌∙◌, refl, All, end_of, IsLastBelow, parts_of}
-use Rattle.part_book.proofs.Parts.{clamped, clamped_none, met_by_last, met_by_none, placed}
+use Rattle.part_book.proofs.Parts.{clamped, clamped_none, met_by_last, met_by_none}
 use Rattle.part_book.proofs.table.Table.meets.Goals as goal
-
-pub end_of-requires : goal.end_of-requires
-end_of-requires c = placed (parts_of c.args.self.now) c.in-Some.part.now c.requires.table.indexes.apart c.in-Some.ensures.last.listed
 
 pub returns-in-Some : goal.returns-in-Some
 returns-in-Some c =

@@ -1,13 +1,9 @@
-use Rattle.part_book.proofs.Words.{◌≡◌, ◌<◌, vec_len, length, get_or, Some, false, sym, ap, subst, ◌∙◌, option_map, arith, below_more, is_flight, part_at, rows_of}
+use Rattle.part_book.proofs.Words.{nat_tests, ◌<◌, length, get_or, Some, sym, ap, ◌∙◌, option_map, arith, is_flight, part_at}
 use Rattle.part_book.proofs.Indexes.{flight_of, first_number, flights_in_slots, is_flown, no_number}
 use Rattle.part_book.proofs.table.Table.next_flight.Goals as goal
 
 pub part_at-part-requires : goal.part_at-part-requires
-part_at-part-requires c =
-    let t = c.args.self.now in
-    let e = c.deref-number-items.ensures.value in
-    let within : c.loop-number.number-index < length t.flights.items = omega (arith, ap length e) in
-    subst (λ ns. get_or ns c.loop-number.number-index 0 < vec_len t.slots) (sym e) (flights_in_slots t (rows_of t) c.requires.table c.loop-number.number-index within)
+part_at-part-requires c = grind (arith, nat_tests, flights_in_slots)
 
 pub returns-then-is_flight_of : goal.returns-then-is_flight_of
 returns-then-is_flight_of c =
@@ -26,11 +22,3 @@ returns c =
     let len = ap length c.deref-number-items.ensures.value in
     let none = no_number (is_flown t.slots.items c.args.client) t.flights.items (λ k l. c.loop-number.invariant k (omega arith)) in
     sym (ap (option_map (λ p. p.span)) (flight_of t c.args.client c.requires.table ∙ ap (option_map (part_at t.slots.items)) none))
-
-pub loop-number-preserved : goal.loop-number-preserved
-loop-number-preserved c =
-    let t = c.args.self.now in
-    let i = c.loop-number.number-index in
-    let part = c.part_at-part.ensures ∙ ap (λ ns. part_at t.slots.items (get_or ns i 0)) c.deref-number-items.ensures.value in
-    let other = ap (λ p. is_flight c.args.client p.state) (sym part) ∙ sym c.is_flight_of.ensures ∙ c.if-is_flight_of.false in
-    below_more (λ k. is_flown t.slots.items c.args.client (get_or t.flights.items k 0) ≡ false) i c.loop-number.invariant other

@@ -1,89 +1,29 @@
-use Rattle.part_book.proofs.Words.{◌*◌, refl, ap, arith, on_ok_weaker}
+use Rattle.part_book.proofs.Words.{nat_tests, rules, ap, arith, on_ok_weaker}
 use Rattle.part_book.proofs.Chunks.{leaves_enough}
 use Rattle.part_book.proofs.Rooms.{grown, same_table}
 use Rattle.part_book.proofs.table.Table.reserve.Goals as goal
 
 pub returns-in_err-reserve_rings-clause-kept : goal.returns-in_err-reserve_rings-clause-kept
-returns-in_err-reserve_rings-clause-kept c =
-    grown c.args.self.now _ c.requires refl refl refl (record {
-      order = c.reserve_rings.ensures.order;
-      dirty = c.reserve_rings.ensures.dirty;
-      muzzy = c.reserve_rings.ensures.muzzy;
-      retained = c.reserve_rings.ensures.retained;
-      dirty_pages = refl;
-      muzzy_pages = refl;
-      retained_pages = refl;
-      sizes = refl;
-      firsts = refl;
-      numbers = refl;
-      chunks = refl;
-    })
+returns-in_err-reserve_rings-clause-kept c = search (rules, arith, grown)
 
 pub returns-in_err-reserve-clause-kept : goal.returns-in_err-reserve-clause-kept
-returns-in_err-reserve-clause-kept c =
-    grown c.args.self.now _ c.requires refl refl refl (record {
-      order = c.reserve_rings.ensures.order;
-      dirty = c.reserve_rings.ensures.dirty;
-      muzzy = c.reserve_rings.ensures.muzzy;
-      retained = c.reserve_rings.ensures.retained;
-      dirty_pages = refl;
-      muzzy_pages = refl;
-      retained_pages = refl;
-      sizes = c.reserve.ensures.keys;
-      firsts = refl;
-      numbers = refl;
-      chunks = refl;
-    })
+returns-in_err-reserve-clause-kept c = search (rules, arith, grown)
 
 pub returns-in_err-reserve-2-clause-kept : goal.returns-in_err-reserve-2-clause-kept
-returns-in_err-reserve-2-clause-kept c =
-    grown c.args.self.now _ c.requires refl refl refl (record {
-      order = c.reserve_rings.ensures.order;
-      dirty = c.reserve_rings.ensures.dirty;
-      muzzy = c.reserve_rings.ensures.muzzy;
-      retained = c.reserve_rings.ensures.retained;
-      dirty_pages = refl;
-      muzzy_pages = refl;
-      retained_pages = refl;
-      sizes = c.reserve.ensures.keys;
-      firsts = c.reserve-2.ensures.keys;
-      numbers = refl;
-      chunks = refl;
-    })
+returns-in_err-reserve-2-clause-kept c = search (rules, arith, grown)
 
 pub returns-in_err-reserve-3-clause-kept : goal.returns-in_err-reserve-3-clause-kept
 returns-in_err-reserve-3-clause-kept c =
-    grown c.args.self.now _ c.requires refl refl refl (record {
-      order = c.reserve_rings.ensures.order;
-      dirty = c.reserve_rings.ensures.dirty;
-      muzzy = c.reserve_rings.ensures.muzzy;
-      retained = c.reserve_rings.ensures.retained;
-      dirty_pages = refl;
-      muzzy_pages = refl;
-      retained_pages = refl;
-      sizes = c.reserve.ensures.keys;
-      firsts = c.reserve-2.ensures.keys;
-      numbers = ap (λ p. p.numbers) c.in_err-reserve-3.ensures.err;
-      chunks = ap (λ p. p.chunks) c.in_err-reserve-3.ensures.err;
-    })
+    let numbers = ap (λ p. p.numbers) c.in_err-reserve-3.ensures.err in
+    let chunks = ap (λ p. p.chunks) c.in_err-reserve-3.ensures.err in
+    search (rules, arith, grown, numbers, chunks)
 
 pub returns-clause-kept : goal.returns-clause-kept
 returns-clause-kept c =
     let numbers = c.reserve_numbers.ensures in
     let rings = c.in_ok-reserve_rings.ensures in
-    same_table c.args.self.now _ c.requires (record {
-      order = c.reserve_rings.ensures.order;
-      dirty = c.reserve_rings.ensures.dirty;
-      muzzy = c.reserve_rings.ensures.muzzy;
-      retained = c.reserve_rings.ensures.retained;
-      dirty_pages = refl;
-      muzzy_pages = refl;
-      retained_pages = refl;
-      sizes = c.reserve.ensures.keys;
-      firsts = c.reserve-2.ensures.keys;
-      numbers = ap (λ p. p.numbers) c.in_ok-reserve-3.ensures.ok;
-      chunks = ap (λ p. p.chunks) c.in_ok-reserve-3.ensures.ok;
-    })
+    let edges = c.in_ok-reserve-3.ensures.ok in
+    same_table c.args.self.now _ c.requires (let numbers = ap (λ p. p.numbers) edges in let chunks = ap (λ p. p.chunks) edges in search (rules, arith, numbers, chunks))
     (record {
       flights = numbers.flights;
       kept = numbers.kept;
@@ -98,6 +38,4 @@ returns-clause-kept c =
     })
 
 pub returns-clause-ok_leaves : goal.returns-clause-ok_leaves
-returns-clause-ok_leaves c =
-    let spare = ap (λ p. p.spare) c.in_ok-reserve-3.ensures.ok in
-    on_ok_weaker c.reserve_numbers.result (λ _. leaves_enough c.reserve-3.new.self (2 * c.args.more) (omega arith)) c.reserve_numbers.ensures.ok
+returns-clause-ok_leaves c = grind (arith, nat_tests, leaves_enough, on_ok_weaker)
