@@ -1,14 +1,21 @@
 -- A slab comes, or goes.
-use Rattle.bin_book.proofs.Words.{Some, None, ◌≡◌, ◌≢◌, ℕ, ◌+◌, ◌-◌, ◌*◌, ◌^◌, ◌<◌, ◌≤◌, Bool, false, eqb, ltb, List, [], ◌∷◌, ◌++◌, length, length-set, map, filter, find, get_or, set, count_by, ◌⊎◌, inl, inr, refl, sym, ap, ◌∙◌, subst, arith, Contains, vec_len, vec_capacity, zero, slice_get, list_any, range_with_len, cases_eq, cases_lt, eq-eqb, get_or-set_at, nat_tests, get_or-set_other, get_or-set_same, length-map, map-append, Contains-append_left, Contains-push, Contains-push_cases, length-range_with_len, count_by-le-length, sum_by-append, sum_by-cons, pages_at, regions_at, size_at, pages_bounds, size_bounds, slab_filled, Region, landing, region_of, regions_from, starts_at, AreFreeFrom, Bits, Key, IsAscending, is_above, is_below, is_from, key_cmp, with_key, without_key, length_with, length_without, key_tie, key_total, every_from, filter_from, with_from, with_keeps, with_self, without_from, without_keeps, absent, others_is, parts, present, Chart, Table, addr_of, meets_slab, place, slab_with_out, with_slab, HasPage, holder_at, AreCounts, AreFreeSlots, IsBinned, IsCharted, AreSlabKeys, IsSlabIn, IsSlabTable, bin_key, bin_of, bits_at, left_of, ones, slab_region, regions_in, out_of_slabs, slab_at, slab_of, slabs_in, slabs_without, count_none, any_false, bit, count_map, count_same, count_some, filter_map_is, filter_same, map_from, map_has, map_same, range_from, range_has, AreNew, not_found, same_members, get_or_from_slice_get, slice_get_within}
-use Rattle.bin_book.proofs.Places.{length_ones, place_inside, run_ones, bits_here, bits_there, same_slab}
+use Rattle.bin_book.proofs.Words.{Some, None, ◌≡◌, ◌≢◌, ℕ, ◌+◌, ◌-◌, ◌*◌, ◌^◌, ◌<◌, ◌≤◌, Bool, false, eqb, ltb, List, [], ◌∷◌, ◌++◌, length, length-set, map, filter, get_or, set, count_by, ◌⊎◌, inl, inr, refl, sym, ap, ◌∙◌, subst, arith, Contains, vec_len, vec_capacity, zero, slice_get, list_any, range_with_len, cases_eq, cases_lt, eq-eqb, get_or-set_at, nat_tests, get_or-set_other, get_or-set_same, length-map, map-append, Contains-append_left, Contains-push, Contains-push_cases, length-range_with_len, count_by-le-length, sum_by-append, sum_by-cons, pages_at, regions_at, pages_bounds, slab_filled, Region, landing, regions_from, AreFreeFrom, Bits, Key, IsAscending, is_above, is_below, is_from, key_cmp, with_key, without_key, length_with, length_without, key_tie, key_total, filter_from, with_from, with_keeps, with_self, without_from, without_keeps, absent, others_is, parts, present, Chart, Table, addr_of, meets_slab, place, slab_with_out, with_slab, HasPage, holder_at, AreCounts, AreFreeSlots, IsBinned, IsCharted, AreSlabKeys, IsSlabIn, IsSlabTable, bin_key, bin_of, bits_at, left_of, ones, regions_in, out_of_slabs, slab_at, slab_of, slabs_in, slabs_without, count_none, any_false, bit, count_map, count_same, count_some, filter_map_is, filter_same, map_has, map_same, range_from, get_or_from_slice_get, slice_get_within, append-nil, filter_all_of, not, out_of, zeros, IsRising}
+use Rattle.bin_book.proofs.Places.{filter_split, length_ones, bits_here, bits_there, same_slab}
 use Rattle.bin_book.proofs.Taking.{small_numbers}
-use Rattle.bin_book.proofs.Regions.{out_from, out_has, regions_agree, regions_rise, from_rises, landed, landed_from, landed_new, landed_old}
+use Rattle.bin_book.proofs.Regions.{landing_between, regions_agree, regions_both, regions_first, regions_rise}
+use Rattle.list_facts.proofs.Members.{filter_none_of}
 use Rattle.std.specs.FinMap as map_of
 
 -- ---- a new slab
 
 pub new_ones : (bits : Bits) (out : ℕ) → out ≤ regions_at bits.class → AreFreeFrom out bits → ones (regions_at bits.class) bits.free ≡ range_with_len out (regions_at bits.class - out)
-new_ones bits out most run = run_ones bits.free 0 (regions_at bits.class) out (omega arith) (omega arith) (λ i low lt. run i ∙ grind (arith, nat_tests)) (λ i ge lt. run i ∙ grind (arith, nat_tests)) ∙ ap (range_with_len out) (omega arith)
+new_ones bits out most run = filter_split (λ i. get_or bits.free i false) out (regions_at bits.class) most
+    ∙ (λ x. filter_none_of (λ i. get_or bits.free i false) (range_with_len 0 out) (λ i m. run i ∙ grind (arith, nat_tests, range_from 0 out i m)) x ++ filter_all_of (λ i. get_or bits.free i false) (range_with_len out (regions_at bits.class - out)) (λ i m. run i ∙ grind (arith, nat_tests, range_from out (regions_at bits.class - out) i m)) x)
+
+new_zeros : (bits : Bits) (out : ℕ) → out ≤ regions_at bits.class → AreFreeFrom out bits → zeros (regions_at bits.class) bits.free ≡ range_with_len 0 out
+new_zeros bits out most run = filter_split (λ i. not (get_or bits.free i false)) out (regions_at bits.class) most
+    ∙ (λ x. filter_all_of (λ i. not (get_or bits.free i false)) (range_with_len 0 out) (λ i m. ap not (run i) ∙ grind (arith, nat_tests, range_from 0 out i m)) x ++ filter_none_of (λ i. not (get_or bits.free i false)) (range_with_len out (regions_at bits.class - out)) (λ i m. ap not (run i) ∙ grind (arith, nat_tests, range_from out (regions_at bits.class - out) i m)) x)
+    ∙ append-nil (range_with_len 0 out)
 
 pub new_slab : (bits : Bits) (first out : ℕ) → out ≤ regions_at bits.class → AreFreeFrom out bits → slab_of bits first ≡ slab_with_out bits.class first out
 new_slab bits first out most run = λ k. record { class = bits.class; first = first; free = map (place bits.class first) (new_ones bits out most run k) }
@@ -231,62 +238,24 @@ module _ (t : Table) (i : IsSlabTable t) (class first number : ℕ) (bits : Bits
   pub regions_added : (client count : ℕ) → count ≤ regions_at class → AreFreeFrom count bits → IsAscending keys → (codes : List ℕ) → ((n : ℕ) → n < count → holder_at codes (512 * number + n) ≡ Some client)
       → ((p : ℕ) → (p < 512 * number) ⊎ (512 * number + count ≤ p) → holder_at codes p ≡ holder_at t.holders p) → out_of_slabs slots codes keys ≡ landing (regions_from client class (4096 * first) count) (regions_in t)
   regions_added client count most run ascending codes here others =
-      let small : class < 36 = subst (λ n. n < 36) is new.small in
-      let size = (size_bounds class (omega arith)).0 in
-      let old = t.slots.items in
-      let was = t.holders in
-      let made = λ (n : ℕ). region_of client class (4096 * first + n * size_at class) in
       let come = regions_from client class (4096 * first) count in
-      let coming = from_rises client class (4096 * first) 0 count (omega arith) in
-      let rising = regions_rise old was t.firsts.keys i.ascending i.kept in
-      let mine = bits_here t.slots.items number number bits in_items refl in
-      let class' = ap (λ (b : Bits). b.class) mine ∙ is in
-      let region : (n : ℕ) → n < count → slab_region slots codes slab n ≡ made n = (λ n l x. record { addr = place (class' x) first n; class = class' x; holder = here n l x }) in
-      let theirs : out_of_slabs slots codes t.firsts.keys ≡ regions_in t = regions_agree old slots was codes t.firsts.keys (λ k m. bits_there t.slots.items number k.minor bits (other_number k m)) (λ k n m low.
-      let few = (slab_filled (bits_at old k.minor).class (i.kept.slab k m).small).2 in
-      let few' = (slab_filled class small).2 in
-      let other = other_number k m in
+      let were = out_of_slabs t.slots.items t.holders in
+      let lower = filter (is_below slab) t.firsts.keys in
+      let higher = filter (is_above slab) t.firsts.keys in
+      let made : Bits → ℕ → Region = λ b n. record { addr = place b.class first n; class = b.class; holder = holder_at codes (512 * number + n) } in
+      let mine : out_of slots codes slab ≡ come = ap (λ (b : Bits). map (made b) (zeros (regions_at b.class) b.free)) (bits_here t.slots.items number number bits in_items refl)
+      ∙ ap (map (made bits)) (new_zeros bits count (subst (λ c. count ≤ regions_at c) (sym is) most) run)
+      ∙ map_same (made bits) _ (range_with_len 0 count) (λ n m x. record { addr = place (is x) first n; class = is x; holder = here n (omega (arith, (range_from 0 count n m).1)) x }) in
+      let theirs = λ (p : Key → Bool). regions_agree t.slots.items slots t.holders codes (filter p t.firsts.keys) (λ k m. bits_there t.slots.items number k.minor bits (other_number k (filter_from p t.firsts.keys k m).0)) (λ k n m low.
+      let there = (filter_from p t.firsts.keys k m).0 in
+      let few = (slab_filled (bits_at t.slots.items k.minor).class (i.kept.slab k there).small).2 in
+      let few' = (slab_filled class (subst (λ n. n < 36) is new.small)).2 in
+      let other = other_number k there in
       others (512 * k.minor + n) (elim (cases_lt k.minor number) [ inl l ↦ inl (omega arith) | inr g ↦ inr (omega arith) ])) in
-      let fresh : AreNew addr_of come (regions_in t) = every_from (λ (r : Region). find (starts_at r.addr) (regions_in t) ≡ None) come (λ r m.
-      let p = map_from made (range_with_len 0 count) r m in
-      let low = (range_from 0 count p.0 p.1).1 in
-      let at : place class first p.0 ≡ r.addr = ap (λ (x : Region). x.addr) p.2 in
-      let inside = place_inside class first p.0 small (omega arith) in
-      not_found addr_of (regions_in t) r.addr (λ q n e.
-      let o = out_from old was t.firsts.keys q n in
-      let b = bits_at old (o.0).minor in
-      let low' = (i.kept.slab o.0 o.2.there).small in
-      let inside' = place_inside b.class (o.0).major o.1 low' o.2.low in
-      let size' = (size_bounds b.class (omega arith)).0 in
-      let at' : place b.class (o.0).major o.1 ≡ q.addr = ap (λ (x : Region). x.addr) o.2.is in
-      elim (beside o.0 o.2.there) [ inl far ↦ omega arith | inr far ↦ omega arith ])) in
-      same_members addr_of (out_of_slabs slots codes keys) (landing come (regions_in t)) (regions_rise slots codes keys ascending kept_added) (landed come (regions_in t) coming rising fresh).rising
-      (λ r m.
-      let p = out_from slots codes keys r m in
-      let o = p.2 in
-      elim (with_from t.firsts.keys slab p.0 o.there) [
-        | inl e ↦
-            let out : get_or bits.free p.1 false ≡ false = ap (λ (b : Bits). get_or b.free p.1 false) (sym mine) ∙ ap (λ (z : Key). get_or (bits_at slots z.minor).free p.1 false) (sym e) ∙ o.out in
-            let low : p.1 < regions_at bits.class = subst (λ (b : Bits). p.1 < regions_at b.class) mine (subst (λ (z : Key). p.1 < regions_at (bits_at slots z.minor).class) e o.low) in
-            let told = run p.1 in
-            let l : p.1 < count = elim (cases_lt p.1 count) [ inl l ↦ l | inr g ↦ absurd (grind (arith, nat_tests)) ] in
-            let it : made p.1 ≡ r = sym (region p.1 l) ∙ ap (λ (z : Key). slab_region slots codes z p.1) (sym e) ∙ o.is in
-            landed_new come (regions_in t) coming rising fresh r (subst (Contains come) it (map_has made (range_with_len 0 count) p.1 (range_has 0 count p.1 (omega arith) (omega arith))))
-        | inr d ↦ landed_old come (regions_in t) coming rising fresh r (subst (λ rs. Contains rs r) theirs (out_has slots codes t.firsts.keys r p.0 p.1 (record { there = d; low = o.low; out = o.out; is = o.is })))
-      ])
-      (λ r m. elim (landed_from come (regions_in t) coming rising fresh r m) [
-        | inl d ↦
-            let p = map_from made (range_with_len 0 count) r d in
-            let l = (range_from 0 count p.0 p.1).1 in
-            let same = ap regions_at is in
-            let told = run p.0 in
-            let out : get_or bits.free p.0 false ≡ false = grind (arith, nat_tests) in
-            out_has slots codes keys r slab p.0 (record { there = with_self t.firsts.keys slab; low = subst (λ (b : Bits). p.0 < regions_at b.class) (sym mine) (omega arith); out = ap (λ (b : Bits). get_or b.free p.0 false) mine ∙ out; is = region p.0 (omega arith) ∙ p.2 })
-        | inr d ↦
-            let p = out_from slots codes t.firsts.keys r (subst (λ rs. Contains rs r) (sym theirs) d) in
-            let o = p.2 in
-            out_has slots codes keys r p.0 p.1 (record { there = with_keeps t.firsts.keys slab p.0 o.there; low = o.low; out = o.out; is = o.is })
-      ])
+      let before : regions_in t ≡ were lower ++ were higher = ap were (parts key_cmp key_total slab t.firsts.keys i.ascending ∙ ap (λ ks. lower ++ ks) (absent key_cmp key_total slab key_tie t.firsts.keys new_key)) ∙ regions_both t.slots.items t.holders lower higher in
+      let after : out_of_slabs slots codes keys ≡ were lower ++ (come ++ were higher) = regions_both slots codes lower (slab ∷ higher) ∙ ap (λ rs. out_of_slabs slots codes lower ++ rs) (regions_first slots codes slab higher)
+      ∙ (λ x. theirs (is_below slab) x ++ (mine x ++ theirs (is_above slab) x)) in
+      after ∙ sym (ap (landing come) before ∙ landing_between (were lower) come (were higher) (subst (IsRising addr_of) after (regions_rise slots codes keys ascending kept_added)))
 
 -- how many slabs there are
 pub few_slabs : (t : Table) → IsSlabTable t → (class : ℕ) → class < 36 → get_or t.counts class 0 < 2 ^ 32

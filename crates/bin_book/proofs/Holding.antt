@@ -1,7 +1,7 @@
 -- Which slab has an address, and the region that begins there, or none.
-use Rattle.bin_book.proofs.Words.{Option, IfNone, IfSome, ◌≡◌, ℕ, ◌+◌, ◌-◌, ◌*◌, ◌/◌, ◌%◌, ◌<◌, ◌≤◌, true, false, ◌&&◌, eqb, ltb, List, length, map, filter, get_or, Some, None, ◌⊎◌, inl, inr, refl, sym, ap, ◌∙◌, subst, arith, Contains, is_lt, vec_len, find, option_map, list_any, range_with_len, div-add-mod', mul-div_cancel, mul-mod_left, cases_Bool, eq-eqb, eqb-true, false_from_ne_true, nat_tests, IsStrictlySortedBy-filter, get_or_from_slice_get, slice_get-get_or, slice_get_within, pages_at, regions_at, size_at, pages_bounds, size_bounds, Key, IsAscending, is_below, key_cmp, last_of, filter_from, filter_has, last_greatest, less_from_parts, less_parts, start, every_member, less_from_lt, Table, BinSlab, is_among, is_out, place, slab_places, addr_of, HasOut, IsLastKeyBelow, IsOutAt, IsSlabTable, bits_at, ones, slab_at, slabs_in, slab_region, regions_in, any_from, any_has, any_map, any_none, map_from, map_has, range_from, range_has, Region, starts_at, member_found}
+use Rattle.bin_book.proofs.Words.{Option, IfNone, IfSome, ◌≡◌, ℕ, ◌+◌, ◌-◌, ◌*◌, ◌/◌, ◌%◌, ◌<◌, ◌≤◌, true, false, ◌&&◌, eqb, ltb, List, length, map, filter, get_or, Some, None, ◌⊎◌, inl, inr, refl, sym, ap, ◌∙◌, subst, arith, Contains, is_lt, vec_len, find, option_map, list_any, range_with_len, div-add-mod', mul-div_cancel, mul-mod_left, cases_Bool, eq-eqb, eqb-true, false_from_ne_true, nat_tests, IsStrictlySortedBy-filter, get_or_from_slice_get, slice_get-get_or, slice_get_within, pages_at, regions_at, size_at, pages_bounds, size_bounds, Key, IsAscending, is_below, key_cmp, last_of, filter_from, filter_has, last_greatest, less_from_parts, less_parts, start, every_member, less_from_lt, Table, BinSlab, is_among, is_out, place, slab_places, HasOut, IsLastKeyBelow, IsOutAt, IsSlabTable, bits_at, ones, slab_at, slabs_in, slab_region, regions_in, any_from, any_has, any_map, any_none, map_from, map_has, range_from, range_has, Region, starts_at, is_some, is_some_find}
 use Rattle.bin_book.proofs.Places.{among_ones, place_inside}
-use Rattle.bin_book.proofs.Regions.{out_from, out_has, regions_rise}
+use Rattle.bin_book.proofs.Regions.{found_out, out_from}
 use Rattle.std.specs.FinMap as map_of
 
 below_page : (k : Key) (page : ℕ) → k.major < page → is_below (start page) k ≡ true
@@ -160,31 +160,27 @@ module _ (t : Table) (i : IsSlabTable t) where
 
 -- ---- the region at an address
 
-module _ (t : Table) (i : IsSlabTable t) (class addr : ℕ) (small : class < 36) (key : Key) (last : IsLastKeyBelow t.firsts.keys (addr / 4096 + 1) key) where
+module _ (t : Table) (i : IsSlabTable t) (class addr : ℕ) (small : class < 36) (key : Key) (last : IsLastKeyBelow t.firsts.keys (addr / 4096 + 1) key) (size : ℕ) (of_class : size ≡ size_at class) where
   abbrev offset : ℕ
   offset = addr - 4096 * key.major
 
   pub from_first : 4096 * key.major ≤ addr
   from_first = let below = last.below in omega arith
 
-  some_size : 0 < size_at class
-  some_size = let size = (size_bounds class (omega arith)).0 in omega arith
-
-  pub out_at : offset % size_at class ≡ 0 → HasOut (bits_at t.slots.items key.minor) class (offset / size_at class) → IsOutAt t class addr key (offset / size_at class)
+  pub out_at : offset % size ≡ 0 → HasOut (bits_at t.slots.items key.minor) class (offset / size) → IsOutAt t class addr key (offset / size)
   out_at whole out = record {
     there = last.there;
-    at = (let parts = div-add-mod' offset (size_at class) in let first = from_first in omega arith);
+    at = ap (λ s. 4096 * key.major + offset / size * s) (sym of_class) ∙ (let parts = div-add-mod' offset size in let first = from_first in omega arith);
     out = out;
   }
 
-  pub out_not : (offset % size_at class ≡ 0 → HasOut (bits_at t.slots.items key.minor) class (offset / size_at class) → ⊥) → false ≡ list_any (is_out class addr) (slabs_in t)
+  pub out_not : (offset % size ≡ 0 → HasOut (bits_at t.slots.items key.minor) class (offset / size) → ⊥) → false ≡ list_any (is_out class addr) (slabs_in t)
   out_not none = none_out t i class addr (λ k n o.
-      let same = only_holder t i class addr key last k n o in
-      let p = subst (λ z. IsOutAt t class addr z n) same o in
+      let p = subst (λ z. IsOutAt t class addr z n) (only_holder t i class addr key last k n o) o in
       let at = p.at in
-      let is : offset ≡ n * size_at class = omega arith in
-      let place : offset / size_at class ≡ n = ap (λ x. x / size_at class) is ∙ mul-div_cancel n some_size in
-      none (ap (λ x. x % size_at class) is ∙ mul-mod_left n (size_at class)) (subst (HasOut (bits_at t.slots.items key.minor) class) (sym place) p.out))
+      let some : 0 < size = omega (arith, (size_bounds class (omega arith)).0) in
+      let is : offset ≡ n * size = (let e : offset ≡ n * size_at class = omega arith in e ∙ ap (λ s. n * s) (sym of_class)) in
+      none (ap (λ x. x % size) is ∙ mul-mod_left n size) (subst (HasOut (bits_at t.slots.items key.minor) class) (sym (ap (λ x. x / size) is ∙ mul-div_cancel n some)) p.out))
 
 -- where no slab begins at the page of an address or below, no region stands there
 pub pages_far : (t : Table) → IsSlabTable t → (class addr : ℕ) → ((k : Key) → Contains t.firsts.keys k → addr / 4096 + 1 ≤ k.major) → (k : Key) (n : ℕ) → IsOutAt t class addr k n → ⊥
@@ -210,11 +206,8 @@ module _ (t : Table) (i : IsSlabTable t) (addr : ℕ) (key : Key) where
       cc)
 
   -- a region that is out is what begins at its address
-  pub starts : (n : ℕ) → IsOutAt t class addr key n → Contains (regions_in t) (slab_region t.slots.items t.holders key n)
-  starts n o = out_has t.slots.items t.holders t.firsts.keys _ key n (record { there = o.there; low = o.out.inside; out = o.out.out; is = refl })
+  pub found_there : (n : ℕ) → IsOutAt t class addr key n → find (starts_at addr) (regions_in t) ≡ Some (slab_region t.slots.items t.holders key n)
+  found_there n o = ap (λ a. find (starts_at a) (regions_in t)) (sym o.at) ∙ found_out t.slots.items t.holders t.firsts.keys i.ascending i.kept _ key n (record { there = o.there; low = o.out.inside; out = o.out.out; is = refl })
 
   pub some_starts : (n : ℕ) → IsOutAt t class addr key n → true ≡ list_any (starts_at addr) (regions_in t)
-  some_starts n o = sym (any_has (starts_at addr) (regions_in t) _ (starts n o) (eq-eqb _ addr o.at))
-
-  pub found_there : (n : ℕ) → IsOutAt t class addr key n → find (starts_at addr) (regions_in t) ≡ Some (slab_region t.slots.items t.holders key n)
-  found_there n o = ap (λ a. find (starts_at a) (regions_in t)) (sym o.at) ∙ member_found addr_of (regions_in t) _ (regions_rise t.slots.items t.holders t.firsts.keys i.ascending i.kept) (starts n o)
+  some_starts n o = sym (ap is_some (found_there n o)) ∙ is_some_find (starts_at addr) (regions_in t)

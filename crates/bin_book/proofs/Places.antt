@@ -1,5 +1,6 @@
 -- The places of a slab with their addresses, and slabs under their keys, as bits are written.
-use Rattle.bin_book.proofs.Words.{◌≡◌, ℕ, ◌+◌, ◌-◌, ◌*◌, ◌<◌, ◌≤◌, zero, suc, Bool, true, false, not, ◌&&◌, ◌||◌, eqb, List, [], ◌∷◌, length, map, filter, get_or, set, count_by, position, Some, inl, inr, refl, sym, ap, ◌∙◌, arith, ◌≢◌, ◌^◌, ◌⊎◌, subst, Contains, dite, ℕ_discrete, range_with_len, mul-le-mul_right, cases_Bool, cases_eq, eq-eqb, eqb-true, false_from_ne_true, get_or-set_at, get_or-set_other, get_or-set_same, position-Some, length-filter, sum_by-cons, size_at, pages_at, regions_at, size_bounds, slab_filled, filter_from, filter_has, with_from, with_keeps, with_self, without_from, without_keeps, is_among, place, with_free, with_regions_out, ones, slab_of, IsBinned, IsCharted, AreSlabKeys, IsMoved, IsSlabIn, bin_key, bin_of, bits_at, left_of, no_bits, slab_at, any_has, any_none, bit, filter_both, filter_map_is, filter_same, map_has, map_from, range_from, range_has, count_map, count_same, tied_itself, Bits, Key, with_key, without_key, key_tie, key_total, Chart, HasPage}
+use Rattle.bin_book.proofs.Words.{◌≡◌, ℕ, ◌+◌, ◌-◌, ◌*◌, ◌++◌, ◌<◌, ◌≤◌, zero, suc, Bool, true, false, not, ◌&&◌, ◌||◌, eqb, List, [], ◌∷◌, length, map, filter, get_or, set, count_by, position, Some, inl, inr, refl, sym, ap, ◌∙◌, arith, ◌≢◌, ◌^◌, ◌⊎◌, subst, Contains, range_with_len, mul-le-mul_right, cases_Bool, cases_eq, eq-eqb, eqb-true, false_from_ne_true, get_or-set_at, get_or-set_other, get_or-set_same, position-Some, length-filter, sum_by-cons, size_at, pages_at, regions_at, size_bounds, slab_filled, filter_from, filter_has, with_from, with_keeps, with_self, without_from, without_keeps, is_among, place, with_free, with_regions_out, ones, slab_of, IsBinned, IsCharted, AreSlabKeys, IsMoved, IsSlabIn, bin_key, bin_of, bits_at, left_of, no_bits, slab_at, any_has, any_none, bit, filter_both, filter_map_is, filter_same, map_has, map_from, range_from, range_has, count_map, count_same, tied_itself, Bits, Key, with_key, without_key, key_tie, key_total, Chart, HasPage}
+use Rattle.std.proofs.lemmas.List.Elements.{filter-append}
 
 -- ---- free places, by their numbers
 
@@ -76,17 +77,13 @@ taken_slab class first addrs old new taken =
     (λ j m. let r = range_from 0 n j m in sym (taken j (omega (arith, r.1)))) in
     λ k. record { class = class; first = first; free = sym (kept ∙ ap (map (place class first)) (both ∙ same)) k }
 
--- the places from one on
-pub run_ones : (bits : List Bool) (start n out : ℕ) → start ≤ out → out ≤ start + n → ((i : ℕ) → start ≤ i → i < out → get_or bits i false ≡ false) → ((i : ℕ) → out ≤ i → i < start + n → get_or bits i false ≡ true)
-    → filter (λ j. get_or bits j false) (range_with_len start n) ≡ range_with_len out (start + n - out)
-run_ones bits start zero out low high before behind = ap (range_with_len out) (let none : 0 ≡ start + 0 - out = omega arith in none)
-run_ones bits start (suc n) out low high before behind = dite (ℕ_discrete start out)
-    (λ is. let t = behind start (omega arith) (omega arith) in
-    let len : start + suc n - out ≡ suc (start + 1 + n - (start + 1)) = omega arith in
-    rw (t, len) (λ k. is k ∷ (run_ones bits (start + 1) n (start + 1) (omega arith) (omega arith) (λ i a b. absurd (omega arith)) (λ i a b. behind i (omega arith) (omega arith)) ∙ ap (λ m. range_with_len m (start + 1 + n - (start + 1))) (ap (λ m. m + 1) is)) k))
-    (λ other. let f = before start (omega arith) (omega arith) in
-    let len : start + suc n - out ≡ start + 1 + n - out = omega arith in
-    rw (f, len) (run_ones bits (start + 1) n out (omega arith) (omega arith) (λ i a b. before i (omega arith) b) (λ i a b. behind i a (omega arith))))
+-- a range in two parts
+range_split : (a m n b : ℕ) → b ≡ a + m → range_with_len a (m + n) ≡ range_with_len a m ++ range_with_len b n
+range_split a zero n b e = grind arith
+range_split a (suc m) n b e = let more : suc m + n ≡ suc (m + n) = omega arith in rw more (grind (arith, range_split (a + 1) m n b))
+
+pub filter_split : (p : ℕ → Bool) (m n : ℕ) → m ≤ n → filter p (range_with_len 0 n) ≡ filter p (range_with_len 0 m) ++ filter p (range_with_len m (n - m))
+filter_split p m n le = let whole : n ≡ m + (n - m) = omega arith in ap (λ k. filter p (range_with_len 0 k)) whole ∙ ap (filter p) (range_split 0 m (n - m) m (omega arith)) ∙ filter-append p (range_with_len 0 m) (range_with_len m (n - m))
 
 -- ---- keys
 

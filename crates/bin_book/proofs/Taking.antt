@@ -1,5 +1,5 @@
 -- The lowest slab with a free region, a region that is taken out of it or put back, and a slab that leaves.
-use Rattle.bin_book.proofs.Words.{◌≡◌, ◌≢◌, ℕ, ◌+◌, ◌*◌, ◌^◌, ◌<◌, Bool, true, false, eqb, List, [], ◌∷◌, ◌++◌, length, length-append, map, get_or, Option, Some, None, inl, inr, refl, sym, ap, ◌∙◌, subst, arith, Contains, Less, Equal, vec_len, is_some, IfNone, IfSome, ◌≤◌, suc, ltb, length-set, set, count_by, position, vec_capacity, IsSome, not, filter, is_eq, IsStrictlySortedBy, cases_Bool, cases_eq, cases_lt, eq-eqb, eqb-true, false_from_ne_true, get_or-set_at, nat_tests, tied_itself, get_or_read_under, length-map, get_or-set_other, Key, IsAscending, key_cmp, KeySet, is_other, without_key, key_total, contains_cases, contains_later, other_from, without_from, less_major, every_member, Bits, regions_at, Table, free_of, place, BinSlab, with_free, with_regions_out, is_all_free, IsLeast, IsLowestOpen, IsSlabTable, bin_of, bits_at, left_of, no_bits, ones, slab_at, slabs_in, IsMoved, IsOutAt, IsSlabIn, bin_key, slab_of, slabs_without, head, bit, map_both, map_same, any_has, any_map, any_none, filter_all_of, filter_map_is, filter_same, map_from, map_has, position_or_len, list_any, position-Some, pages_bounds, slab_filled, fails_before_first, sum_by-cons, sum_by-set}
+use Rattle.bin_book.proofs.Words.{◌≡◌, ◌≢◌, ℕ, ◌+◌, ◌*◌, ◌^◌, ◌<◌, Bool, true, false, eqb, List, [], ◌∷◌, ◌++◌, length, length-append, map, get_or, Option, Some, None, inl, inr, refl, sym, ap, ◌∙◌, subst, arith, Contains, Less, Equal, vec_len, is_some, IfNone, IfSome, ◌≤◌, ltb, length-set, set, count_by, position, vec_capacity, IsSome, not, filter, is_eq, IsStrictlySortedBy, cases_eq, cases_lt, eq-eqb, eqb-true, false_from_ne_true, get_or-set_at, nat_tests, tied_itself, get_or_read_under, length-map, get_or-set_other, Key, IsAscending, key_cmp, KeySet, is_other, without_key, key_total, contains_cases, contains_later, other_from, without_from, less_major, every_member, Bits, regions_at, Table, free_of, place, BinSlab, with_free, with_regions_out, is_all_free, IsLeast, IsLowestOpen, IsSlabTable, bin_of, bits_at, left_of, no_bits, ones, slab_at, slabs_in, IsMoved, IsOutAt, IsSlabIn, bin_key, slab_of, slabs_without, head, bit, map_both, map_same, any_has, any_map, any_none, filter_all_of, filter_map_is, filter_same, map_from, map_has, position_or_len, list_any, position-Some, pages_bounds, slab_filled, fails_before_first, count_none, sum_by-set}
 use Rattle.bin_book.proofs.Places.{length_ones, freed_slab, lowest_one, same_place, taken_slab, binned_changed, charted_changed, by_key, counts_stay, is_new, kept_changed, one_place, others_stay, key_cases}
 
 -- a key below another one is another one
@@ -49,40 +49,24 @@ found_open t i class bin key b minor low =
     let second : p.0.minor ≡ key.minor = omega arith in
     let is : p.0 ≡ key = (λ k. record { major = first k; minor = second k }) in
     let majors : (bin_of t.slots.items p.0).major ≡ 2 * class = ap (λ (k : Key). k.major) p.2 ∙ b.at in
-    subst (IsLowestOpen t class) is (elim (cases_Bool (eqb (left_of (bits_at t.slots.items p.0.minor)) 0)) [
-      | inl full ↦ absurd (let odd : 2 * (bits_at t.slots.items p.0.minor).class + 1 ≡ 2 * class = rw full at majors in omega arith)
-      | inr some ↦
-          let even : 2 * (bits_at t.slots.items p.0.minor).class + 0 ≡ 2 * class = rw some at majors in
-          record {
-            there = p.1;
-            of_class = omega arith;
-            some_free = grind (arith, nat_tests);
-            lowest = λ k m c free.
-                let above = b.least (bin_of t.slots.items k) (i.binned.has k m) (open_key t class k c free) in
-                let fits = small_numbers t i k m in
-                omega arith;
-          }
-    ])
+    subst (IsLowestOpen t class) is (record {
+      there = p.1;
+      of_class = grind (arith, nat_tests);
+      some_free = grind (arith, nat_tests);
+      lowest = λ k m c free. omega (arith, b.least (bin_of t.slots.items k) (i.binned.has k m) (open_key t class k c free), small_numbers t i k m);
+    })
 
--- lists that are nothing together
-tail_nil : (xs ys : List ℕ) → xs ++ ys ≡ [] → ys ≡ []
-tail_nil [] ys e = e
-tail_nil (x ∷ xs) ys e = absurd (let l : length (x ∷ (xs ++ ys)) ≡ 0 = ap length e in omega arith)
+-- the free regions of a slab are among those of its class
+free_has : (slots : List Bits) (class : ℕ) (keys : List Key) (key : Key) → Contains keys key → (bits_at slots key.minor).class ≡ class → length (slab_at slots key).free ≤ length (free_of class (map (slab_at slots) keys))
+free_has slots class [] key m e = absurd (omega arith)
+free_has slots class (k ∷ ks) key m e = grind (arith, nat_tests, contains_cases k ks key m, free_has slots class ks key, e, length-append (slab_at slots k).free (free_of class (map (slab_at slots) ks)))
 
 -- and its class has a free region
 pub some_open : (t : Table) → IsSlabTable t → (class : ℕ) (key : Key) → IsLowestOpen t class key → free_of class (slabs_in t) ≡ [] → ⊥
 unfolding slabs_in
-some_open t i class key o none = by t.firsts.keys o.there none
-  where
-    by : (ks : List Key) → Contains ks key → free_of class (map (slab_at t.slots.items) ks) ≡ [] → ⊥
-    by [] m e = omega arith
-    by (k ∷ ks) m e = elim (contains_cases k ks key m) [
-      | inl is ↦
-          let many = length-map (ones (regions_at (bits_at t.slots.items key.minor).class) (bits_at t.slots.items key.minor).free) (place (bits_at t.slots.items key.minor).class key.major) ∙ length_free t i key o.there in
-          let none : length ((slab_at t.slots.items key).free ++ free_of class (map (slab_at t.slots.items) ks)) ≡ 0 = grind (arith, nat_tests, is, e, o.of_class) in
-          omega (arith, length-append (slab_at t.slots.items key).free (free_of class (map (slab_at t.slots.items) ks)), many, o.some_free)
-      | inr d ↦ by ks d (grind (arith, nat_tests, tail_nil, e))
-    ]
+some_open t i class key o none =
+    let bits = bits_at t.slots.items key.minor in
+    omega (arith, free_has t.slots.items class t.firsts.keys key o.there o.of_class, ap length none, length-map (ones (regions_at bits.class) bits.free) (place bits.class key.major), length_free t i key o.there, o.some_free)
 
 -- so what is found tells whether a region is free
 pub free_told : (t : Table) → IsSlabTable t → (class : ℕ) (r : Option Key) (told : Bool) (free : List ℕ) → free_of class (slabs_in t) ≡ free → told ≡ is_some r → IfNone r (free_of class (slabs_in t) ≡ []) → IfSome r (λ key. IsLowestOpen t class key)
@@ -98,14 +82,8 @@ with_bit b i v = record { class = b.class; free = set b.free i v }
 pub some_position : (bits : List Bool) → 0 < count_by (λ b. b) bits → IsSome (position (λ b. b) bits)
 some_position bits some = elim (cases_lt (position_or_len (λ b. b) bits) (length bits)) [
   | inl lt ↦ let t : ltb (position_or_len (λ b. b) bits) (length bits) ≡ true = grind (arith, nat_tests) in rw t refl
-  | inr ge ↦ absurd (let none = zeros bits (λ k l. fails_before_first (λ b. b) bits k false (omega arith)) in omega arith)
+  | inr ge ↦ absurd (let none = count_none (λ b. b) bits (λ b (k, l, e). let no = fails_before_first (λ b. b) bits k b (omega arith) in cc) in omega arith)
 ]
-  where
-    zeros : (bits : List Bool) → ((k : ℕ) → k < length bits → get_or bits k false ≡ false) → count_by (λ b. b) bits ≡ 0
-    zeros [] none = refl
-    zeros (b ∷ bits) none =
-        let here : bit b ≡ 0 = ap bit (none 0 (omega arith)) in
-        omega (arith, sum_by-cons (λ b. bit b) b bits, zeros bits (λ k l. none (suc k) (omega arith)))
 
 -- the bits that were read and those after the lowest free region was taken
 pub taken_bits : (bits read new : Bits) (r : Option ℕ) (n : ℕ) → read ≡ bits → r ≡ Some n → r ≡ position (λ b. b) read.free → IfSome r (λ i. i < regions_at read.class) → IfSome r (λ i. new ≡ record { class = read.class; free = set read.free i false })

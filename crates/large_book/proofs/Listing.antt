@@ -11,25 +11,25 @@ use Rattle.space_model.specs.Region.{address_of, held_anew, inserted, starts_at}
 use Rattle.list_facts.specs.ByKey.{AreBehind, IsRising}
 use Rattle.list_facts.specs.Codes.{code_of, of_code}
 use Rattle.list_facts.proofs.ByKey.{absent_filter, finds_changed, finds_without, is_inserted, rising_changed, rising_filter, same_finds}
-use Rattle.large_book.specs.Larges.{Numbers, addr_of, packed, region_at, region_numbered, listed, larges_in}
+use Rattle.large_book.specs.Larges.{Numbers, addr_of, packed, region_at, region_numbered, larges_from, larges_in}
 
 -- ---- what is listed
 
 -- the regions from a page on begin at that page or behind it
-behind_page : (numbers : Numbers) (addr page more : ℕ) → addr < 4096 * page → AreBehind addr_of addr (listed numbers page more)
-unfolding listed
+behind_page : (numbers : Numbers) (addr page more : ℕ) → addr < 4096 * page → AreBehind addr_of addr (larges_from numbers page more)
+unfolding larges_from
 behind_page numbers addr page zero low = tt
 behind_page numbers addr page (suc more) low =
-    elim (map.get numbers page) as (λ o. AreBehind addr_of addr (cons_option (option_map (region_at page) o) (listed numbers (page + 1) more))) [
+    elim (map.get numbers page) as (λ o. AreBehind addr_of addr (cons_option (option_map (region_at page) o) (larges_from numbers (page + 1) more))) [
       | None ↦ behind_page numbers addr (page + 1) more (omega (arith, low))
       | Some number ↦ (low, behind_page numbers addr (page + 1) more (omega (arith, low)))
     ]
 
-rises : (numbers : Numbers) (page more : ℕ) → IsRising addr_of (listed numbers page more)
-unfolding listed
+rises : (numbers : Numbers) (page more : ℕ) → IsRising addr_of (larges_from numbers page more)
+unfolding larges_from
 rises numbers page zero = tt
 rises numbers page (suc more) =
-    elim (map.get numbers page) as (λ o. IsRising addr_of (cons_option (option_map (region_at page) o) (listed numbers (page + 1) more))) [
+    elim (map.get numbers page) as (λ o. IsRising addr_of (cons_option (option_map (region_at page) o) (larges_from numbers (page + 1) more))) [
       | None ↦ rises numbers (page + 1) more
       | Some number ↦ (behind_page numbers (4096 * page) (page + 1) more (omega arith), rises numbers (page + 1) more)
     ]
@@ -44,11 +44,11 @@ found_cons (Some number) addr page rs = grind (arith, nat_tests)
 abbrev is_among : ℕ → ℕ → ℕ → Bool
 is_among addr page more = eqb (addr % 4096) 0 && leb page (addr / 4096) && ltb (addr / 4096) (page + more)
 
-finds : (numbers : Numbers) (addr page more : ℕ) → find (starts_at addr) (listed numbers page more) ≡ cond (is_among addr page more) (region_numbered numbers (addr / 4096)) None
-unfolding listed
+finds : (numbers : Numbers) (addr page more : ℕ) → find (starts_at addr) (larges_from numbers page more) ≡ cond (is_among addr page more) (region_numbered numbers (addr / 4096)) None
+unfolding larges_from
 finds numbers addr page zero = grind (arith, nat_tests)
 finds numbers addr page (suc more) =
-    grind (arith, nat_tests, found_cons (map.get numbers page) addr page (listed numbers (page + 1) more), finds numbers addr (page + 1) more)
+    grind (arith, nat_tests, found_cons (map.get numbers page) addr page (larges_from numbers (page + 1) more), finds numbers addr (page + 1) more)
 
 -- what begins at an address
 abbrev pub found : Numbers → ℕ → Option Region

@@ -14,7 +14,7 @@ use Rattle.std.proofs.lemmas.List.{length-append, length-replicate, get_or_past,
 use Rattle.lane_scan.specs.Bits.{bits_of}
 use Rattle.lane_scan.proofs.BitLemmas.{length-bits_of, get_or-bits_of}
 use Rattle.page_map.specs.Pages.{Pages, put, with_leaf}
-use Rattle.page_map.specs.Table.{leaf_of, number_at, number_of, numbers_in, chunks_in, pages_in, IsTable}
+use Rattle.page_map.specs.Table.{leaf_of, number_at, number_of, numbers_in, chunks_with_leaf, pages_in, IsTable}
 
 -- places in a row: a root, or a leaf
 abbrev pub Places : Type 0
@@ -45,9 +45,9 @@ get-numbers_in root at page =
     ∙ grind (arith, nat_tests, get_or_past root (page / 512) None)
 
 -- which chunks have a leaf
-contains-chunks_in : (root : Places) (chunk : ℕ) → set.contains (chunks_in root) chunk ≡ is_some (leaf_of root chunk)
-unfolding chunks_in
-contains-chunks_in root chunk =
+contains-chunks_with_leaf : (root : Places) (chunk : ℕ) → set.contains (chunks_with_leaf root) chunk ≡ is_some (leaf_of root chunk)
+unfolding chunks_with_leaf
+contains-chunks_with_leaf root chunk =
     set.contains-from_list_nat _ chunk ∙ list_any-range (λ c. is_some (leaf_of root c)) 0 (length root) chunk
     ∙ grind (arith, nat_tests, get_or_past root chunk None)
 
@@ -100,7 +100,7 @@ pub record IsTableOf (root : Places) (places : ℕ) (at : ℕ → Option ℕ) (s
 -- a table is one of what it shows
 pub of_view : {root : Places} {places : ℕ} {spare : ℕ} {pages : Pages} (at : ℕ → Option ℕ) → IsTable root places → pages_in root at spare ≡ pages → IsTableOf root places at spare pages
 of_view {root = root} at table is =
-    rw (← is) (record { table = table; numbers = get-numbers_in root at; chunks = contains-chunks_in root; left = refl })
+    rw (← is) (record { table = table; numbers = get-numbers_in root at; chunks = contains-chunks_with_leaf root; left = refl })
 
 -- what a table holds, and what each change of it leaves
 module _ {root : Places} {places : ℕ} {at : ℕ → Option ℕ} {spare : ℕ} {pages : Pages} (of : IsTableOf root places at spare pages) where
@@ -108,7 +108,7 @@ module _ {root : Places} {places : ℕ} {at : ℕ → Option ℕ} {spare : ℕ} 
   pub view_of : pages_in root at spare ≡ pages
   view_of = λ i. record {
     numbers = map.same_map nat_cmp_total map.nat_cmp-IsAntisymmetric _ _ (λ q. get-numbers_in root at q ∙ sym (of.numbers q)) i;
-    chunks = set.same_set nat_cmp_total set.nat_cmp-IsAntisymmetric _ _ (λ q. contains-chunks_in root q ∙ sym (of.chunks q)) i;
+    chunks = set.same_set nat_cmp_total set.nat_cmp-IsAntisymmetric _ _ (λ q. contains-chunks_with_leaf root q ∙ sym (of.chunks q)) i;
     spare = sym of.left i;
   }
 

@@ -1,5 +1,5 @@
 -- Each step keeps the rule.
-use Rattle.turn_lock.proofs.Words.{◌≡◌, ℕ, ◌+◌, ◌-◌, ◌%◌, ◌^◌, ◌<◌, ◌≤◌, ◌≢◌, ◌⊎◌, zero, suc, true, false, cond, ltb, List, [], ◌∷◌, ◌++◌, map, length, get_or, take, drop, set, Some, sym, refl, ap, ◌∙◌, subst, inl, inr, ⊎_elim, arith, length-append, Option, none, some, some-injective, some-ne-none, dite, ℕ_discrete, get_elem?, set-get_or, mod-add-mod, nat_tests, append_cancel_left, range_with_len, State, Me, step, keeps, takes, gives, stepped, rest, Allows, Splits, Joins, opening, at_set, set_again, set_else, at_snoc, at_longer, one_turn, Turn, Claim, Stage, Idle, Waiting, Serving, View, turn_of, entries, entries_by, replay_turns, IsLegal, total, times, tickets_in, ticket_of, is_serving, is_idle, IsClaim, StandsIn, number_count, has, tickets, staged, IsTrueView, Slot, opening_view, Rule, drew, looked, with_turn, entry_added, nothing_added, first_part, later_part, joined, spent}
+use Rattle.turn_lock.proofs.Words.{◌≡◌, ℕ, ◌+◌, ◌-◌, ◌%◌, ◌^◌, ◌<◌, ◌≤◌, ◌≢◌, ◌⊎◌, zero, suc, true, false, cond, ltb, List, [], ◌∷◌, ◌++◌, map, length, get_or, take, drop, set, Some, sym, refl, ap, ◌∙◌, subst, inl, inr, ⊎_elim, arith, length-append, Option, none, some, some-injective, some-ne-none, dite, ℕ_discrete, get_elem?, set-get_or, mod-add-mod, nat_tests, append_cancel_left, range_with_len, State, Me, step, keeps, takes, gives, stepped, rest, Allows, Splits, Joins, opening, at_set, set_again, set_else, at_snoc, at_longer, one_turn, Turn, Claim, Stage, Idle, Waiting, Serving, View, turn_of, entries, entries_by, replay_turns, IsLegal, total, times, tickets_in, ticket_of, is_serving, is_idle, IsClaim, StandsIn, number_count, has, tickets, staged, IsTrueView, Slot, opening_view, Rule, drew, looked, with_turn, entry_added, nothing_added, first_part, later_part, both_views, spent}
 use Rattle.turn_lock.proofs.Totals.{total_set, total_append, total_one, total_two, total_le, times_range, times_parts, length_parts, length_range, total_parts, at_mapped, at_append}
 use Rattle.turn_lock.proofs.Histories.{by_other, entries_append, prefix_all, prefix_more, replay_append, legal_more}
 
@@ -358,9 +358,9 @@ module _ {S O E R : Type 0} (logs : S → ℕ → O → E → Type 0) (after : S
       }
 
   -- a join keeps the rule
-  pub joins : (id : ℕ) (v : V) (other : ℕ) (w : V) → is_idle v.stage ≡ true → is_idle w.stage ≡ true → Joins Kept id v other w (joined v w) spent
+  pub joins : (id : ℕ) (v : V) (other : ℕ) (w : V) → is_idle v.stage ≡ true → is_idle w.stage ≡ true → Joins Kept id v other w (both_views v w) spent
   joins id v other w idle_v idle_w s r at differ there =
-      let both : V = joined v w in let vs : List V = set s.views id both in let still_v = idle_is v.stage idle_v in let still_w = idle_is w.stage idle_w in
+      let both : V = both_views v w in let vs : List V = set s.views id both in let still_v = idle_is v.stage idle_v in let still_w = idle_is w.stage idle_w in
       let theirs : get_elem? s.views other ≡ some w = sym (set_else s.views id other both differ) ∙ there in
       let know_v = r.knows id v at in let know_w = r.knows other w theirs in
       let free_v : tickets v ≡ 0 = ap tickets_in still_v in let free_w : tickets w ≡ 0 = ap tickets_in still_w in
