@@ -1,9 +1,10 @@
 -- A slab comes, or goes.
-use Rattle.bin_book.proofs.Words.{Some, None, ◌≡◌, ◌≢◌, ℕ, ◌+◌, ◌-◌, ◌*◌, ◌^◌, ◌<◌, ◌≤◌, Bool, false, eqb, ltb, List, [], ◌∷◌, ◌++◌, length, length-set, map, filter, get_or, set, count_by, ◌⊎◌, inl, inr, refl, sym, ap, ◌∙◌, subst, arith, Contains, vec_len, vec_capacity, zero, slice_get, list_any, range_with_len, cases_eq, cases_lt, eq-eqb, get_or-set_at, nat_tests, get_or-set_other, get_or-set_same, length-map, map-append, Contains-append_left, Contains-push, Contains-push_cases, length-range_with_len, count_by-le-length, sum_by-append, sum_by-cons, pages_at, regions_at, pages_bounds, slab_filled, Region, landing, regions_from, AreFreeFrom, Bits, Key, IsAscending, is_above, is_below, is_from, key_cmp, with_key, without_key, length_with, length_without, key_tie, key_total, filter_from, with_from, with_keeps, with_self, without_from, without_keeps, absent, others_is, parts, present, Chart, Table, addr_of, meets_slab, place, slab_with_out, with_slab, HasPage, holder_at, AreCounts, AreFreeSlots, IsBinned, IsCharted, AreSlabKeys, IsSlabIn, IsSlabTable, bin_key, bin_of, bits_at, left_of, ones, regions_in, out_of_slabs, slab_at, slab_of, slabs_in, slabs_without, count_none, any_false, bit, count_map, count_same, count_some, filter_map_is, filter_same, map_has, map_same, range_from, get_or_from_slice_get, slice_get_within, append-nil, filter_all_of, not, out_of, zeros, IsRising}
+use Rattle.bin_book.proofs.Words.{is_eq, tied_itself, Some, None, ◌≡◌, ◌≢◌, ℕ, ◌+◌, ◌-◌, ◌*◌, ◌^◌, ◌<◌, ◌≤◌, Bool, false, eqb, ltb, List, [], ◌∷◌, ◌++◌, length, length-set, map, filter, get_or, set, count_by, ◌⊎◌, inl, inr, refl, sym, ap, ◌∙◌, subst, arith, Contains, vec_len, vec_capacity, zero, slice_get, list_any, range_with_len, cases_eq, cases_lt, eq-eqb, get_or-set_at, nat_tests, get_or-set_other, get_or-set_same, length-map, map-append, Contains-append_left, Contains-push, Contains-push_cases, length-range_with_len, count_by-le-length, sum_by-append, sum_by-cons, pages_at, regions_at, pages_bounds, slab_filled, Region, landing, regions_from, AreFreeFrom, Bits, Key, IsAscending, is_above, is_below, is_from, key_cmp, with_key, without_key, length_with, length_without, key_tie, key_total, filter_from, with_from, with_keeps, with_self, without_from, without_keeps, absent, others_is, parts, present, Chart, Table, addr_of, meets_slab, place, slab_with_out, with_slab, HasPage, holder_at, AreCounts, AreFreeSlots, IsBinned, IsCharted, AreSlabKeys, IsSlabIn, IsSlabTable, bin_key, bin_of, bits_at, left_of, ones, regions_in, out_of_slabs, slab_at, slab_of, slabs_in, slabs_without, count_none, any_false, bit, count_map, count_same, count_some, filter_map_is, filter_same, map_has, map_same, range_from, get_or_from_slice_get, slice_get_within, append-nil, filter_all_of, not, out_of, zeros, IsRising}
 use Rattle.bin_book.proofs.Places.{filter_split, length_ones, bits_here, bits_there, same_slab}
 use Rattle.bin_book.proofs.Taking.{small_numbers}
 use Rattle.bin_book.proofs.Regions.{landing_between, regions_agree, regions_both, regions_first, regions_rise}
-use Rattle.list_facts.proofs.Members.{filter_none_of}
+use Rattle.std.proofs.Common.{rules}
+use Rattle.list_facts.proofs.Members.{count_less_one, filter_none_of, kept_length}
 use Rattle.std.specs.FinMap as map_of
 
 -- ---- a new slab
@@ -34,22 +35,10 @@ new_in bits first out small some most long run inside =
 -- ---- counts over keys
 
 pub count_with : (p : Key → Bool) (ks : List Key) (key : Key) → IsAscending ks → (Contains ks key → ⊥) → count_by p (with_key ks key) ≡ count_by p ks + bit (p key)
-count_with p ks key s none =
-    let f = λ (k : Key). bit (p k) in
-    let whole = ap (count_by p) (parts key_cmp key_total key ks s) ∙ sum_by-append f (filter (is_below key) ks) (filter (is_from key) ks) in
-    let same = ap (count_by p) (absent key_cmp key_total key key_tie ks none) in
-    let n = sum_by-append f (filter (is_below key) ks) (key ∷ filter (is_above key) ks) in
-    let one = sum_by-cons f key (filter (is_above key) ks) in
-    omega arith
+count_with p ks key s none = omega (arith, ap (count_by p) (parts key_cmp key_total key ks s ∙ ap (λ ls. filter (is_below key) ks ++ ls) (absent key_cmp key_total key key_tie ks none)), sum_by-append (λ k. bit (p k)) (filter (is_below key) ks), sum_by-cons (λ k. bit (p k)) key (filter (is_above key) ks))
 
 pub count_without : (p : Key → Bool) (ks : List Key) (key : Key) → IsAscending ks → Contains ks key → count_by p (without_key ks key) + bit (p key) ≡ count_by p ks
-count_without p ks key s m =
-    let f = λ (k : Key). bit (p k) in
-    let whole = ap (count_by p) (parts key_cmp key_total key ks s) ∙ sum_by-append f (filter (is_below key) ks) (filter (is_from key) ks) in
-    let same = ap (count_by p) (present key_cmp key_total key key_tie ks s m) in
-    let n = ap (count_by p) (others_is key_cmp key_total key ks s) ∙ sum_by-append f (filter (is_below key) ks) (filter (is_above key) ks) in
-    let one = sum_by-cons f key (filter (is_above key) ks) in
-    omega arith
+count_without p ks key s m = count_less_one (λ k. is_eq (key_cmp k key)) p ks key m (ap is_eq (tied_itself key_total key)) (omega (arith, kept_length (λ k. is_eq (key_cmp k key)) ks, length_without ks key s m))
 
 -- a key by the first pages, where these differ
 below_first : (key k : Key) → k.major ≢ key.major → is_below key k ≡ ltb k.major key.major
@@ -355,23 +344,9 @@ module _ (t : Table) (i : IsSlabTable t) (slab : Key) (there : Contains t.firsts
       let len = ap (λ v. vec_len v) slots in
       let fewer = ap length firsts in
       let one = fewer_keys in
-      record {
-        ascending = ascending;
-        kept = rw (items, firsts) kept_less;
-        binned = rw (items, firsts, bins) binned_less;
-        charted = rw (items, firsts) charted;
-        in_slots = λ k m. let low = i.in_slots k (without_from t.firsts.keys slab k (subst (λ ks. Contains ks k) firsts m)).0 in omega arith;
-        free = rw (free_items, firsts, len) free_more;
-        classes = ap length counts ∙ length-set t.counts class_of_slab (get_or t.counts class_of_slab 0 - 1) ∙ i.classes;
-        counts = rw (counts, items, firsts) counts_less;
-        places = omega arith;
-        held = rw (len, codes) i.held;
-        small = omega arith;
-        room = omega arith;
-        chart_room = omega arith;
-        firsts_room = omega arith;
-        bins_room = omega arith;
-      }
+      let classes = ap length counts ∙ length-set t.counts class_of_slab (get_or t.counts class_of_slab 0 - 1) ∙ i.classes in
+      let in_slots : (k : Key) → Contains u.firsts.keys k → k.minor < vec_len u.slots = λ k m. omega (arith, i.in_slots k (without_from t.firsts.keys slab k (subst (λ ks. Contains ks k) firsts m)).0) in
+      search (rules, arith, items, firsts, bins, free_items, len, counts, codes, ascending, kept_less, binned_less, charted, free_more, counts_less, i.held)
 
   pub slabs_less : (u : Table) → u.firsts.keys ≡ rest_keys → u.slots ≡ t.slots → slabs_in u ≡ slabs_without t slab
   unfolding slabs_in

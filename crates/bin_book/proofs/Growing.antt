@@ -2,6 +2,7 @@
 use Rattle.bin_book.proofs.Words.{nat_cmp, append-nil, append_assoc, ◌≡◌, ℕ, ◌+◌, ◌-◌, ◌*◌, ◌^◌, ◌<◌, ◌≤◌, zero, suc, eqb, List, [], ◌∷◌, ◌++◌, length, map, get_or, count_by, inl, inr, sym, ap, ◌∙◌, subst, arith, Contains, Some, None, refl, vec_len, vec_capacity, range_with_len, IsStrictlySortedBy, cases_lt, nat_tests, get_or_append_left, Contains-append_cases, sum_by-append, sum_by-cons, pages_at, slab_filled, Key, IsAscending, Bits, Chart, Table, BinSlab, Grows, HasPage, holder_at, AreFreeSlots, IsBinned, IsCharted, AreSlabKeys, IsSlabIn, IsSlabTable, bin_key, bits_at, left_of, no_bits, regions_in, out_of_slabs, slab_at, slab_of, slabs_in, bit, map_same, range_from}
 use Rattle.bin_book.proofs.Regions.{regions_agree}
 use Rattle.bin_book.proofs.Adding.{count_zero}
+use Rattle.std.proofs.Common.{rules}
 use Rattle.std.specs.FinMap as map_of
 
 -- one more number of a range
@@ -81,23 +82,9 @@ module _ (t u : Table) (i : IsSlabTable t) (firsts : u.firsts.keys ≡ t.firsts.
       → vec_len u.slots < 2 ^ 32 → vec_len u.slots ≤ vec_capacity u.free → vec_len u.slots ≤ vec_len u.chart.firsts → vec_len u.free ≤ u.firsts.spare → vec_len u.free ≤ u.bins.spare → 512 * vec_len u.slots ≤ length u.holders → IsSlabTable u
   table_grown le free places small room chart_room firsts_room bins_room held =
       let len = ap length firsts in
-      record {
-        ascending = rw firsts i.ascending;
-        kept = rw firsts kept_grown;
-        binned = rw (firsts, bins) binned_grown;
-        charted = rw firsts charted_grown;
-        in_slots = λ k m. let low = i.in_slots k (subst (λ ks. Contains ks k) firsts m) in omega arith;
-        free = rw (free, firsts) (free_grown le);
-        classes = ap length counts ∙ i.classes;
-        counts = λ class small. ap (λ ns. get_or ns class 0) counts ∙ i.counts class small ∙ sym (ap (count_by (λ (s : BinSlab). eqb s.class class)) slabs_grown);
-        places = omega arith;
-        held = held;
-        small = small;
-        room = room;
-        chart_room = chart_room;
-        firsts_room = firsts_room;
-        bins_room = bins_room;
-      }
+      let classes = ap length counts ∙ i.classes in
+      let in_slots : (k : Key) → Contains u.firsts.keys k → k.minor < vec_len u.slots = λ k m. omega (arith, i.in_slots k (subst (λ ks. Contains ks k) firsts m)) in
+      search (rules, arith, firsts, bins, counts, free, slabs_grown, i.ascending, kept_grown, binned_grown, charted_grown, free_grown le, i.counts)
 
 -- a table whose sets and chart have more room, and that is as it was otherwise
 pub table_roomy : (t u : Table) → IsSlabTable t → u.firsts.keys ≡ t.firsts.keys → t.firsts.spare ≤ u.firsts.spare → u.bins.keys ≡ t.bins.keys → t.bins.spare ≤ u.bins.spare → u.slots ≡ t.slots → u.free ≡ t.free → u.counts ≡ t.counts → length t.holders ≤ length u.holders → Grows t.chart u.chart → IsSlabTable u × (slabs_in u ≡ slabs_in t)
