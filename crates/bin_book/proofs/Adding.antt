@@ -24,13 +24,8 @@ new_slab bits first out most run = λ k. record { class = bits.class; first = fi
 pub new_in : (bits : Bits) (first out : ℕ) → bits.class < 36 → 0 < out → out ≤ regions_at bits.class → length bits.free ≡ 512 → AreFreeFrom out bits → first + pages_at bits.class ≤ 2 ^ 32 → IsSlabIn bits first
 new_in bits first out small some most long run inside =
     let behind : (i : ℕ) → regions_at bits.class ≤ i → get_or bits.free i false ≡ false = (λ i far. run i ∙ grind (arith, nat_tests)) in
-    record {
-      small = small;
-      long = long;
-      behind = behind;
-      some_out = (let left = sym (length_ones bits.free (regions_at bits.class) behind) ∙ ap length (new_ones bits out most run) ∙ length-range_with_len out (regions_at bits.class - out) in omega arith);
-      inside = inside;
-    }
+    let left = sym (length_ones bits.free (regions_at bits.class) behind) ∙ ap length (new_ones bits out most run) ∙ length-range_with_len out (regions_at bits.class - out) in
+    search (rules, arith, behind)
 
 -- ---- counts over keys
 
@@ -186,23 +181,9 @@ module _ (t : Table) (i : IsSlabTable t) (class first number : ℕ) (bits : Bits
   unfolding slabs_in
   table_added small u firsts spare ascending items len free_items free_len cap counts charted chart_len bins bins_spare codes =
       let more = ap length firsts ∙ length_with t.firsts.keys slab i.ascending new_key in
-      record {
-        ascending = ascending;
-        kept = rw (items, firsts) kept_added;
-        binned = rw (items, firsts) (binned_added u.bins.keys bins);
-        charted = rw (items, firsts) charted;
-        in_slots = λ k m. grind (arith, with_from t.firsts.keys slab k (subst (λ ks. Contains ks k) firsts m), i.free.in_slots number was_free, i.in_slots k, len);
-        free = rw (free_items, firsts, len) free_added;
-        classes = ap length counts ∙ length-set t.counts class (get_or t.counts class 0 + 1) ∙ i.classes;
-        counts = rw (counts, items, firsts) (counts_added small);
-        places = omega arith;
-        held = rw (len, codes) i.held;
-        small = omega arith;
-        room = omega arith;
-        chart_room = omega arith;
-        firsts_room = omega arith;
-        bins_room = omega arith;
-      }
+      let classes = ap length counts ∙ length-set t.counts class (get_or t.counts class 0 + 1) ∙ i.classes in
+      let in_slots : (k : Key) → Contains u.firsts.keys k → k.minor < vec_len u.slots = λ k m. grind (arith, with_from t.firsts.keys slab k (subst (λ ks. Contains ks k) firsts m), i.free.in_slots number was_free, i.in_slots k, len) in
+      search (rules, arith, items, firsts, free_items, len, counts, codes, ascending, kept_added, binned_added u.bins.keys bins, charted, free_added, counts_added small, i.held)
 
   pub slabs_added : (u : Table) → u.firsts.keys ≡ keys → u.slots.items ≡ slots → slabs_in u ≡ with_slab (slabs_in t) (slab_of bits first)
   unfolding slabs_in

@@ -1,5 +1,5 @@
 -- More slots.
-use Rattle.bin_book.proofs.Words.{nat_cmp, append-nil, append_assoc, ◌≡◌, ℕ, ◌+◌, ◌-◌, ◌*◌, ◌^◌, ◌<◌, ◌≤◌, zero, suc, eqb, List, [], ◌∷◌, ◌++◌, length, map, get_or, count_by, inl, inr, sym, ap, ◌∙◌, subst, arith, Contains, Some, None, refl, vec_len, vec_capacity, range_with_len, IsStrictlySortedBy, cases_lt, nat_tests, get_or_append_left, Contains-append_cases, sum_by-append, sum_by-cons, pages_at, slab_filled, Key, IsAscending, Bits, Chart, Table, BinSlab, Grows, HasPage, holder_at, AreFreeSlots, IsBinned, IsCharted, AreSlabKeys, IsSlabIn, IsSlabTable, bin_key, bits_at, left_of, no_bits, regions_in, out_of_slabs, slab_at, slab_of, slabs_in, bit, map_same, range_from}
+use Rattle.bin_book.proofs.Words.{nat_cmp, append-nil, append_assoc, ◌≡◌, ℕ, ◌+◌, ◌-◌, ◌*◌, ◌^◌, ◌<◌, ◌≤◌, zero, suc, eqb, List, [], ◌∷◌, ◌++◌, length, map, get_or, count_by, inl, inr, sym, ap, ◌∙◌, subst, arith, Contains, Some, None, refl, vec_len, vec_capacity, range_with_len, IsStrictlySortedBy, cases_lt, nat_tests, get_or_append_left, Contains-append_cases, sum_by-append, sum_by-cons, pages_at, slab_filled, Key, IsAscending, Bits, Chart, Table, BinSlab, Grows, HasPage, holder_at, AreFreeSlots, IsBinned, IsCharted, AreSlabKeys, IsSlabIn, IsSlabTable, AreCounts, bin_key, bits_at, left_of, no_bits, regions_in, out_of_slabs, slab_at, slab_of, slabs_in, bit, map_same, range_from}
 use Rattle.bin_book.proofs.Regions.{regions_agree}
 use Rattle.bin_book.proofs.Adding.{count_zero}
 use Rattle.std.proofs.Common.{rules}
@@ -102,7 +102,7 @@ table_roomy t u i firsts more bins wider slots free counts codes chart =
     )
 
 pub same_chart : (chart : Chart) → Grows chart chart
-same_chart chart = record { numbers = refl; firsts = λ n l. refl; places = omega arith }
+same_chart chart = search rules
 
 -- ---- a table without slabs
 
@@ -116,24 +116,7 @@ none_ascending = tt
 
 pub empty_table : (t : Table) → t.firsts.keys ≡ [] → t.bins.keys ≡ [] → vec_len t.slots ≡ 0 → t.free.items ≡ [] → vec_len t.free ≡ 0 → length t.counts ≡ 36 → ((class : ℕ) → class < 36 → get_or t.counts class 0 ≡ 0) → t.chart.pages.numbers ≡ map_of.empty → IsSlabTable t
 empty_table t firsts bins slots free free_len classes zeros chart =
-    let none = λ (k : Key) (m : Contains t.firsts.keys k). no_member firsts m in
-    record {
-      ascending = rw firsts none_ascending;
-      kept = record { slab = λ k m. absurd (none k m); apart = λ k l m. absurd (none k m); numbers = λ k l m. absurd (none k m) };
-      binned = record { has = λ k m. absurd (none k m); from = λ b m. absurd (no_member bins m) };
-      charted = record { firsts = λ k m. absurd (none k m); holders = λ page n e. absurd (let no : None ≡ Some n = sym (ap (λ ns. map_of.get ns page) chart ∙ map_of.get-empty nat_cmp page) ∙ e in cc) };
-      in_slots = λ k m. absurd (none k m);
-      free = record { in_slots = λ n m. absurd (no_member free m); unused = λ n k m. absurd (no_member free m); once = λ n. rw free (omega arith) };
-      classes = classes;
-      counts = λ class small. zeros class small ∙ sym (ap (count_by (λ (s : BinSlab). eqb s.class class)) (empty_slabs t firsts));
-      places = let len = ap length firsts in omega arith;
-      held = omega arith;
-      small = omega arith;
-      room = omega arith;
-      chart_room = omega arith;
-      firsts_room = omega arith;
-      bins_room = omega arith;
-    }
-  where
-    no_member : {X : Type 0} {xs : List X} {x : X} → xs ≡ [] → Contains xs x → ⊥
-    no_member {X} {xs} {x} e m = let n : Contains {X = X} [] x = subst (λ ys. Contains ys x) e m in omega arith
+    let len = ap length firsts in
+    let numbers : (page n : ℕ) → map_of.get t.chart.pages.numbers page ≡ Some n → ⊥ = λ page n e. let no : None ≡ Some n = sym (ap (λ ns. map_of.get ns page) chart ∙ map_of.get-empty nat_cmp page) ∙ e in cc in
+    let counts : AreCounts t.counts (slabs_in t) = λ class small. zeros class small ∙ sym (ap (count_by (λ (s : BinSlab). eqb s.class class)) (empty_slabs t firsts)) in
+    search (rules, arith, firsts, bins, slots, free, none_ascending, counts, numbers)

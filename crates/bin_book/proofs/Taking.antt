@@ -1,5 +1,6 @@
 -- The lowest slab with a free region, a region that is taken out of it or put back, and a slab that leaves.
-use Rattle.bin_book.proofs.Words.{◌≡◌, ◌≢◌, ℕ, ◌+◌, ◌*◌, ◌^◌, ◌<◌, Bool, true, false, eqb, List, [], ◌∷◌, ◌++◌, length, length-append, map, get_or, Option, Some, None, inl, inr, refl, sym, ap, ◌∙◌, subst, arith, Contains, Less, Equal, vec_len, is_some, IfNone, IfSome, ◌≤◌, ltb, length-set, set, count_by, position, vec_capacity, IsSome, not, filter, is_eq, IsStrictlySortedBy, cases_eq, cases_lt, eq-eqb, eqb-true, false_from_ne_true, get_or-set_at, nat_tests, tied_itself, get_or_read_under, length-map, get_or-set_other, Key, IsAscending, key_cmp, KeySet, is_other, without_key, key_total, contains_cases, contains_later, other_from, without_from, less_major, every_member, Bits, regions_at, Table, free_of, place, BinSlab, with_free, with_regions_out, is_all_free, IsLeast, IsLowestOpen, IsSlabTable, bin_of, bits_at, left_of, no_bits, ones, slab_at, slabs_in, IsMoved, IsOutAt, IsSlabIn, bin_key, slab_of, slabs_without, head, bit, map_both, map_same, any_has, any_map, any_none, filter_all_of, filter_map_is, filter_same, map_from, map_has, position_or_len, list_any, position-Some, pages_bounds, slab_filled, fails_before_first, count_none, sum_by-set}
+use Rattle.bin_book.proofs.Words.{◌≡◌, ◌≢◌, ℕ, ◌+◌, ◌*◌, ◌^◌, ◌<◌, Bool, true, false, eqb, List, [], ◌∷◌, ◌++◌, length, length-append, map, get_or, Option, Some, None, inl, inr, refl, sym, ap, ◌∙◌, subst, arith, Contains, Less, Equal, vec_len, is_some, IfNone, IfSome, ◌≤◌, ltb, length-set, set, count_by, position, vec_capacity, IsSome, not, filter, is_eq, IsStrictlySortedBy, cases_eq, cases_lt, eq-eqb, eqb-true, false_from_ne_true, get_or-set_at, nat_tests, tied_itself, get_or_read_under, length-map, get_or-set_other, Key, IsAscending, key_cmp, KeySet, is_other, without_key, key_total, contains_cases, contains_later, other_from, without_from, less_major, every_member, Bits, regions_at, Table, free_of, place, BinSlab, with_free, with_regions_out, is_all_free, IsLeast, IsLowestOpen, IsSlabTable, AreCounts, bin_of, bits_at, left_of, no_bits, ones, slab_at, slabs_in, IsMoved, IsOutAt, IsSlabIn, bin_key, slab_of, slabs_without, head, bit, map_both, map_same, any_has, any_map, any_none, filter_all_of, filter_map_is, filter_same, map_from, map_has, position_or_len, list_any, position-Some, pages_bounds, slab_filled, fails_before_first, count_none, sum_by-set}
+use Rattle.std.proofs.Common.{rules}
 use Rattle.bin_book.proofs.Places.{length_ones, freed_slab, lowest_one, same_place, taken_slab, binned_changed, charted_changed, by_key, counts_stay, is_new, kept_changed, one_place, others_stay, key_cases}
 
 -- a key below another one is another one
@@ -96,13 +97,10 @@ taken_bits bits read new r n e some is inside taken = (
 
 -- a slab of which one bit is written, as long as a region of it is out
 pub bit_written : (bits : Bits) (first i : ℕ) (v : Bool) → IsSlabIn bits first → i < regions_at bits.class → count_by (λ b. b) (set bits.free i v) < regions_at bits.class → IsSlabIn (with_bit bits i v) first
-bit_written bits first i v is low few = record {
-  small = is.small;
-  long = length-set bits.free i v ∙ is.long;
-  behind = λ j far. get_or-set_other bits.free i j v false (λ e. omega arith) ∙ is.behind j far;
-  some_out = few;
-  inside = is.inside;
-}
+bit_written bits first i v is low few =
+    let long = length-set bits.free i v ∙ is.long in
+    let behind : (j : ℕ) → regions_at bits.class ≤ j → get_or (set bits.free i v) j false ≡ false = λ j far. get_or-set_other bits.free i j v false (λ e. omega arith) ∙ is.behind j far in
+    search (rules, arith, behind)
 
 -- how many are free after one was taken
 pub fewer_left : (bits : List Bool) (i : ℕ) → i < length bits → get_or bits i false ≡ true → count_by (λ b. b) (set bits i false) + 1 ≡ count_by (λ b. b) bits
@@ -124,27 +122,10 @@ module _ (t : Table) (i : IsSlabTable t) (key : Key) (there : Contains t.firsts.
   unfolding slabs_in
   table_changed is u firsts items len free counts chart moved spare codes =
       let keys = ap (λ (s : KeySet). s.keys) firsts in
-      let firsts_spare = ap (λ (s : KeySet). s.spare) firsts in
-      let free_len = ap (λ v. vec_len v) free in
-      let free_cap = ap (λ v. vec_capacity v) free in
-      let free_items = ap (λ v. v.items) free in
-      record {
-        ascending = rw keys i.ascending;
-        kept = rw (items, keys) (kept_changed t.slots.items t.firsts.keys i.kept key there in_items new class is);
-        binned = rw (items, keys) (binned_changed t.slots.items t.firsts.keys i.kept key there in_items new class (small_numbers t i) t.bins.keys u.bins.keys i.binned moved);
-        charted = rw (items, keys, chart) (charted_changed t.slots.items t.firsts.keys i.kept key there in_items new class t.chart i.charted);
-        in_slots = rw (keys, len) i.in_slots;
-        free = rw (keys, len, free_items) i.free;
-        classes = rw counts i.classes;
-        counts = rw (counts, items, keys) (λ c small. i.counts c small ∙ sym (counts_stay t.slots.items t.firsts.keys i.kept key there in_items new class c));
-        places = rw (keys, free_len, len) i.places;
-        held = rw (len, codes) i.held;
-        small = rw len i.small;
-        room = rw (len, free_cap) i.room;
-        chart_room = rw (len, chart) i.chart_room;
-        firsts_room = rw (free_len, firsts_spare) i.firsts_room;
-        bins_room = rw (free_len, spare) i.bins_room;
-      }
+      let in_slots : (k : Key) → Contains u.firsts.keys k → k.minor < vec_len u.slots = rw (keys, len) i.in_slots in
+      let same : AreCounts u.counts (slabs_in u) = rw (counts, items, keys) (λ c small. i.counts c small ∙ sym (counts_stay t.slots.items t.firsts.keys i.kept key there in_items new class c)) in
+      search (rules, arith, firsts, items, len, free, counts, chart, codes, i.ascending, kept_changed t.slots.items t.firsts.keys i.kept key there in_items new class is, i.free, i.classes,
+        binned_changed t.slots.items t.firsts.keys i.kept key there in_items new class (small_numbers t i) t.bins.keys u.bins.keys i.binned moved, charted_changed t.slots.items t.firsts.keys i.kept key there in_items new class t.chart i.charted)
 
   -- its slabs, where each is changed so
   pub slabs_changed : (f : BinSlab → BinSlab) → slab_of new key.major ≡ f (slab_at t.slots.items key) → ((k : Key) → Contains t.firsts.keys k → k ≢ key → slab_at t.slots.items k ≡ f (slab_at t.slots.items k))
