@@ -85,12 +85,9 @@ module _ (t : Table) (i : IsSlabTable t) (class first number : ℕ) (bits : Bits
       other_number p.0 p.1 (ap (λ (z : Key). z.minor) e)
 
   -- no page is in another slab
-  meets_not : (k : Key) → Contains t.firsts.keys k → meets_slab class first (slab_at t.slots.items k) ≡ false
-  unfolding slabs_in
-  meets_not k m = any_false (meets_slab class first) (map (slab_at t.slots.items) t.firsts.keys) (slab_at t.slots.items k) apart (map_has (slab_at t.slots.items) t.firsts.keys k m)
-
   beside : (k : Key) → Contains t.firsts.keys k → (first + pages_at class ≤ k.major) ⊎ (k.major + pages_at (bits_at t.slots.items k.minor).class ≤ first)
-  beside k m = grind (arith, nat_tests, meets_not k m)
+  unfolding slabs_in
+  beside k m = grind (arith, nat_tests, any_false (meets_slab class first) (map (slab_at t.slots.items) t.firsts.keys) (slab_at t.slots.items k) apart (map_has (slab_at t.slots.items) t.firsts.keys k m))
 
   some_pages : 1 ≤ pages_at class
   some_pages = (pages_bounds class (let s = new.small in omega arith)).0
@@ -99,7 +96,7 @@ module _ (t : Table) (i : IsSlabTable t) (class first number : ℕ) (bits : Bits
   pages_of k m = (pages_bounds _ (let s = (i.kept.slab k m).small in omega arith)).0
 
   other_first : (k : Key) → Contains t.firsts.keys k → k.major ≢ first
-  other_first k m e = let one = some_pages in let two = pages_of k m in elim (beside k m) [ inl l ↦ omega arith | inr l ↦ omega arith ]
+  other_first k m e = grind (arith, beside k m, some_pages, pages_of k m, e)
 
   -- what is known of the new bits and of the old ones
   by_new : (P : Key → Bits → Type 0) → P slab bits → ((k : Key) → Contains t.firsts.keys k → P k (bits_at t.slots.items k.minor)) → (k : Key) → Contains keys k → P k (bits_at slots k.minor)
@@ -110,7 +107,7 @@ module _ (t : Table) (i : IsSlabTable t) (class first number : ℕ) (bits : Bits
 
   pub kept_added : AreSlabKeys slots keys
   kept_added = record {
-    slab = by_new (λ k b. IsSlabIn b k.major) new (λ k m. i.kept.slab k m);
+    slab = by_new (λ k b. IsSlabIn b k.major) new i.kept.slab;
     apart = λ k l m n. by_new (λ k b. k.major ≤ l.major → (k ≡ l) ⊎ (k.major + pages_at b.class ≤ l.major))
         (λ le. grind (arith, with_from t.firsts.keys slab l n, beside l, pages_of l, is, le))
         (λ k d le. grind (arith, with_from t.firsts.keys slab l n, beside k d, some_pages, i.kept.apart k l d, le)) k m;
@@ -148,11 +145,7 @@ module _ (t : Table) (i : IsSlabTable t) (class first number : ℕ) (bits : Bits
   }
 
   count_rest : (n : ℕ) → count_by (λ m. eqb m n) rest + bit (eqb number n) ≤ 1
-  count_rest n =
-      let whole = ap (count_by (λ m. eqb m n)) free ∙ sum_by-append (λ m. bit (eqb m n)) rest (number ∷ []) in
-      let one = sum_by-cons (λ m. bit (eqb m n)) number [] in
-      let once = i.free.once n in
-      omega arith
+  count_rest n = grind (arith, ap (count_by (λ m. eqb m n)) free, sum_by-append (λ m. bit (eqb m n)) rest (number ∷ []), sum_by-cons (λ m. bit (eqb m n)) number [], i.free.once n)
 
   free_added : AreFreeSlots rest keys (vec_len t.slots)
   free_added = record {
@@ -162,19 +155,12 @@ module _ (t : Table) (i : IsSlabTable t) (class first number : ℕ) (bits : Bits
   }
 
   class_count : (c : ℕ) → count_by (λ s. eqb s.class c) (map (slab_at slots) keys) ≡ count_by (λ s. eqb s.class c) (map (slab_at t.slots.items) t.firsts.keys) + bit (eqb class c)
-  class_count c =
-      let p = λ (k : Key). eqb (bits_at slots k.minor).class c in
-      let all = count_map (slab_at slots) (λ s. eqb s.class c) keys ∙ count_with p t.firsts.keys slab i.ascending new_key in
-      let old = count_same p (λ k. eqb (bits_at t.slots.items k.minor).class c) t.firsts.keys (λ k m. ap (λ (b : Bits). eqb b.class c) (bits_there t.slots.items number k.minor bits (other_number k m))) ∙ sym (count_map (slab_at t.slots.items) (λ s. eqb s.class c) t.firsts.keys) in
-      let here : bit (p slab) ≡ bit (eqb class c) = ap (λ (b : Bits). bit (eqb b.class c)) (bits_here t.slots.items number number bits in_items refl) ∙ ap (λ d. bit (eqb d c)) is in
-      omega arith
+  class_count c = grind (arith, count_map (slab_at slots) (λ s. eqb s.class c) keys, count_with (λ k. eqb (bits_at slots k.minor).class c) t.firsts.keys slab i.ascending new_key, count_map (slab_at t.slots.items) (λ s. eqb s.class c) t.firsts.keys, is, bits_here t.slots.items number number bits in_items,
+      count_same (λ k. eqb (bits_at slots k.minor).class c) (λ k. eqb (bits_at t.slots.items k.minor).class c) t.firsts.keys (λ k m. ap (λ (b : Bits). eqb b.class c) (bits_there t.slots.items number k.minor bits (other_number k m))))
 
   counts_added : (small : class < 36) → AreCounts (set t.counts class (get_or t.counts class 0 + 1)) (map (slab_at slots) keys)
   unfolding slabs_in
-  counts_added small c low =
-      let was = i.counts c low in
-      let all = class_count c in
-      omega (arith, counted_more t.counts class c (omega arith))
+  counts_added small c low = omega (arith, i.counts c low, class_count c, counted_more t.counts class c (omega arith))
 
   pub table_added : (small : class < 36) → (u : Table) → u.firsts.keys ≡ keys → u.firsts.spare + 1 ≡ t.firsts.spare → IsAscending u.firsts.keys → u.slots.items ≡ slots → vec_len u.slots ≡ vec_len t.slots → u.free.items ≡ rest → vec_len u.free + 1 ≡ vec_len t.free → vec_capacity u.free ≡ vec_capacity t.free
       → u.counts ≡ set t.counts class (get_or t.counts class 0 + 1) → IsCharted slots keys u.chart → vec_len u.chart.firsts ≡ vec_len t.chart.firsts → u.bins.keys ≡ with_key t.bins.keys (bin_key bits.class (eqb (left_of bits) 0) slab) → u.bins.spare + 1 ≡ t.bins.spare → length u.holders ≡ length t.holders → IsSlabTable u
@@ -198,11 +184,7 @@ module _ (t : Table) (i : IsSlabTable t) (class first number : ℕ) (bits : Bits
 
   -- the slot has codes
   pub codes_room : (count : ℕ) → count ≤ regions_at class → 512 * number + count ≤ length t.holders
-  codes_room count most =
-      let few = (slab_filled bits.class new.small).2 in
-      let same = ap regions_at is in
-      let low = i.free.in_slots number was_free in
-      omega arith
+  codes_room count most = omega (arith, (slab_filled bits.class new.small).2, ap regions_at is, i.free.in_slots number was_free)
 
   -- the regions of the slab land among the others
   pub regions_added : (client count : ℕ) → count ≤ regions_at class → AreFreeFrom count bits → IsAscending keys → (codes : List ℕ) → ((n : ℕ) → n < count → holder_at codes (512 * number + n) ≡ Some client)
@@ -230,11 +212,7 @@ module _ (t : Table) (i : IsSlabTable t) (class first number : ℕ) (bits : Bits
 -- how many slabs there are
 pub few_slabs : (t : Table) → IsSlabTable t → (class : ℕ) → class < 36 → get_or t.counts class 0 < 2 ^ 32
 unfolding slabs_in
-few_slabs t i class small =
-    let most = count_by-le-length (λ s. eqb s.class class) (map (slab_at t.slots.items) t.firsts.keys) in
-    let len = length-map t.firsts.keys (slab_at t.slots.items) in
-    let is = i.counts class small in
-    omega arith
+few_slabs t i class small = omega (arith, count_by-le-length (λ s. eqb s.class class) (map (slab_at t.slots.items) t.firsts.keys), length-map t.firsts.keys (slab_at t.slots.items), i.counts class small)
 
 -- a list without a number has it nowhere
 pub count_zero : (ns : List ℕ) (n : ℕ) → (Contains ns n → ⊥) → count_by (λ m. eqb m n) ns ≡ 0
@@ -291,28 +269,15 @@ module _ (t : Table) (i : IsSlabTable t) (slab : Key) (there : Contains t.firsts
   class_of_slab = (bits_at t.slots.items slab.minor).class
 
   class_fewer : (c : ℕ) → count_by (λ s. eqb s.class c) (map (slab_at t.slots.items) rest_keys) + bit (eqb class_of_slab c) ≡ count_by (λ s. eqb s.class c) (map (slab_at t.slots.items) t.firsts.keys)
-  class_fewer c =
-      let all = count_map (slab_at t.slots.items) (λ s. eqb s.class c) t.firsts.keys in
-      let less = count_map (slab_at t.slots.items) (λ s. eqb s.class c) rest_keys in
-      let one = count_without (λ k. eqb (bits_at t.slots.items k.minor).class c) t.firsts.keys slab i.ascending there in
-      omega arith
+  class_fewer c = omega (arith, count_map (slab_at t.slots.items) (λ s. eqb s.class c), count_without (λ k. eqb (bits_at t.slots.items k.minor).class c) t.firsts.keys slab i.ascending there)
 
   pub some_count : 1 ≤ get_or t.counts class_of_slab 0
   unfolding slabs_in
-  some_count =
-      let is = i.counts class_of_slab (i.kept.slab slab there).small in
-      let one = class_fewer class_of_slab in
-      let mine : bit (eqb class_of_slab class_of_slab) ≡ 1 = ap bit (eq-eqb class_of_slab class_of_slab refl) in
-      omega arith
+  some_count = grind (arith, nat_tests, i.counts class_of_slab (i.kept.slab slab there).small, class_fewer class_of_slab)
 
   counts_less : AreCounts (set t.counts class_of_slab (get_or t.counts class_of_slab 0 - 1)) (map (slab_at t.slots.items) rest_keys)
   unfolding slabs_in
-  counts_less c low =
-      let was = i.counts c low in
-      let all = class_fewer c in
-      let small = (i.kept.slab slab there).small in
-      let some = some_count in
-      omega (arith, counted_less t.counts class_of_slab c (omega arith))
+  counts_less c low = omega (arith, i.counts c low, class_fewer c, (i.kept.slab slab there).small, some_count, counted_less t.counts class_of_slab c (omega (arith, (i.kept.slab slab there).small)))
 
   pub fewer_keys : length rest_keys + 1 ≡ length t.firsts.keys
   fewer_keys = length_without t.firsts.keys slab i.ascending there

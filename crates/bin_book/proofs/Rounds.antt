@@ -12,7 +12,7 @@ one_more (x ∷ xs) next (suc i) a le e = grind (arith, common_steps, one_more x
 -- slabs without no address, and without one more
 pub without_none : (slabs : List BinSlab) → slabs ≡ map (with_regions_out []) slabs
 without_none [] = refl
-without_none (s ∷ slabs) = λ k. record { class = s.class; first = s.first; free = sym (filter_all_of (λ a. not (is_among [] a)) s.free (λ a m. refl)) k } ∷ without_none slabs k
+without_none (s ∷ slabs) = grind (arith, without_none slabs, filter_all_of (λ a. not (is_among [] a)) s.free (λ a m. refl))
 
 among_more : (addrs : List ℕ) (a b : ℕ) → not (is_among (addrs ++ a ∷ []) b) ≡ (not (is_among addrs b) && not (is_among (a ∷ []) b))
 among_more addrs a b = ap not (list_any-append (λ x. eqb x b) addrs (a ∷ [])) ∙ grind arith

@@ -72,8 +72,8 @@ some_open t i class key o none =
 -- so what is found tells whether a region is free
 pub free_told : (t : Table) → IsSlabTable t → (class : ℕ) (r : Option Key) (told : Bool) (free : List ℕ) → free_of class (slabs_in t) ≡ free → told ≡ is_some r → IfNone r (free_of class (slabs_in t) ≡ []) → IfSome r (λ key. IsLowestOpen t class key)
     → (told ≡ true → free ≡ [] → ⊥) × ((free ≡ [] → ⊥) → told ≡ true)
-free_told t i class None told free e is none some = ((λ yes nothing. let no : false ≡ true = sym is ∙ yes in cc), (λ more. absurd (more (sym e ∙ none))))
-free_told t i class (Some key) told free e is none some = ((λ yes nothing. some_open t i class key some (e ∙ nothing)), (λ more. is))
+free_told t i class None told free e is none some = (grind arith, grind (arith, e, none, is))
+free_told t i class (Some key) told free e is none some = (grind (arith, some_open t i class key some, e), grind (arith, is))
 
 -- the bits with one written
 abbrev pub with_bit : Bits → ℕ → Bool → Bits
@@ -193,9 +193,7 @@ module _ (t : Table) (i : IsSlabTable t) (class : ℕ) (key : Key) (o : IsLowest
   pub taken_slabs : (u : Table) → u.firsts ≡ t.firsts → u.slots.items ≡ set t.slots.items key.minor (with_bit bits n false) → slabs_in u ≡ map (with_regions_out (addr ∷ [])) (slabs_in t)
   taken_slabs = slabs_changed t i key o.there (with_bit bits n false) refl (with_regions_out (addr ∷ [])) taken_here (λ k m ne.
       let b = bits_at t.slots.items k.minor in
-      taken_slab b.class k.major (addr ∷ []) b.free b.free (λ j l.
-      let differ : eqb addr (place b.class k.major j) ≡ false = false_from_ne_true _ (λ e. others_lack k m ne j l (sym (eqb-true _ _ e))) in
-      rw differ (grind arith)))
+      taken_slab b.class k.major (addr ∷ []) b.free b.free (λ j l. grind (arith, nat_tests, others_lack k m ne j l)))
 
   -- the address comes first among the free ones of the class
   pub taken_lowest : (u : Table) → u.firsts ≡ t.firsts → u.slots.items ≡ set t.slots.items key.minor (with_bit bits n false) → free_of class (slabs_in t) ≡ addr ∷ free_of class (slabs_in u)
@@ -221,7 +219,7 @@ module _ (t : Table) (i : IsSlabTable t) (class addr : ℕ) (key : Key) (n : ℕ
   inside_regions = subst (λ c. n < regions_at c) (sym o.out.of_class) o.out.inside
 
   pub within_bits : n < length old.free
-  within_bits = let is = i.kept.slab key o.there in let most = (slab_filled old.class is.small).2 in let long = is.long in let low = inside_regions in omega arith
+  within_bits = omega (arith, (slab_filled old.class (i.kept.slab key o.there).small).2, (i.kept.slab key o.there).long, inside_regions)
 
   pub at_old : place old.class key.major n ≡ addr
   at_old = ap (λ c. place c key.major n) o.out.of_class ∙ o.at
@@ -255,9 +253,7 @@ module _ (t : Table) (i : IsSlabTable t) (class addr : ℕ) (key : Key) (n : ℕ
 slab_used : (t : Table) → IsSlabTable t → (k : Key) → Contains t.firsts.keys k → is_all_free (slab_at t.slots.items k) ≡ false
 slab_used t i k m =
     let b = bits_at t.slots.items k.minor in
-    let many = length-map (ones (regions_at b.class) b.free) (place b.class k.major) ∙ length_free t i k m in
-    let some = (i.kept.slab k m).some_out in
-    grind (arith, nat_tests)
+    grind (arith, nat_tests, length-map (ones (regions_at b.class) b.free) (place b.class k.major), length_free t i k m, (i.kept.slab k m).some_out)
 
 pub none_unused : (t : Table) → IsSlabTable t → list_any is_all_free (slabs_in t) ≡ false
 unfolding slabs_in
@@ -265,17 +261,14 @@ none_unused t i = any_map (slab_at t.slots.items) is_all_free t.firsts.keys ∙ 
 
 pub all_used : (t : Table) → IsSlabTable t → filter (λ s. not (is_all_free s)) (slabs_in t) ≡ slabs_in t
 unfolding slabs_in
-all_used t i = filter_all_of (λ s. not (is_all_free s)) (map (slab_at t.slots.items) t.firsts.keys) (λ s m.
-    let p = map_from (slab_at t.slots.items) t.firsts.keys s m in
-    ap (λ (s : BinSlab). not (is_all_free s)) (sym p.2) ∙ ap not (slab_used t i p.0 p.1))
+all_used t i = filter_all_of (λ s. not (is_all_free s)) (map (slab_at t.slots.items) t.firsts.keys) (λ s m. grind (arith, map_from (slab_at t.slots.items) t.firsts.keys s m, slab_used t i))
 
 module _ (t : Table) (i : IsSlabTable t) (class addr : ℕ) (key : Key) (n : ℕ) (o : IsOutAt t class addr key n) (last : left_of (bits_at t.slots.items key.minor) + 1 ≡ regions_at class) where
   -- the slab would be unused
   emptied : is_all_free (with_free addr (slab_at t.slots.items key)) ≡ true
   emptied =
       let b = bits_at t.slots.items key.minor in
-      let bits = set b.free n true in
-      let count = length-map (ones (regions_at b.class) bits) (place b.class key.major) ∙ length_ones bits (regions_at b.class) (put_behind t i class addr key n o) ∙ left_put t i class addr key n o ∙ last ∙ ap regions_at (sym o.out.of_class) in
+      let count = length-map (ones (regions_at b.class) (set b.free n true)) (place b.class key.major) ∙ length_ones (set b.free n true) (regions_at b.class) (put_behind t i class addr key n o) ∙ left_put t i class addr key n o ∙ last ∙ ap regions_at (sym o.out.of_class) in
       ap is_all_free (sym (put_here t i class addr key n o)) ∙ grind (arith, nat_tests)
 
   pub one_unused : list_any is_all_free (map (with_free addr) (slabs_in t)) ≡ true
