@@ -67,10 +67,10 @@ module _ (t : Table) (i : IsSlabTable t) (class first number : ℕ) (bits : Bits
   was_free = subst (λ ns. Contains ns number) (sym free) (Contains-push rest number)
 
   pub in_items : number < length t.slots.items
-  in_items = let l = i.free.in_slots number was_free in let same = t.slots.ok.0 in omega arith
+  in_items = omega (arith, i.free.in_slots number was_free, t.slots.ok.0)
 
   pub low_number : number < 2 ^ 32
-  low_number = let l = i.free.in_slots number was_free in let small = i.small in omega arith
+  low_number = omega (arith, i.free.in_slots number was_free, i.small)
 
   pub other_number : (k : Key) → Contains t.firsts.keys k → k.minor ≢ number
   other_number k m = i.free.unused number k was_free m
@@ -81,8 +81,7 @@ module _ (t : Table) (i : IsSlabTable t) (class first number : ℕ) (bits : Bits
   pub new_bin : (full : Bool) → Contains t.bins.keys (bin_key class full slab) → ⊥
   new_bin full m =
       let p = i.binned.from _ m in
-      let e : p.0 ≡ slab = same_slab _ _ _ _ p.0 slab (small_numbers t i p.0 p.1) low_number p.2 in
-      other_number p.0 p.1 (ap (λ (z : Key). z.minor) e)
+      other_number p.0 p.1 (ap (λ (z : Key). z.minor) (same_slab _ _ _ _ p.0 slab (small_numbers t i p.0 p.1) low_number p.2))
 
   -- no page is in another slab
   beside : (k : Key) → Contains t.firsts.keys k → (first + pages_at class ≤ k.major) ⊎ (k.major + pages_at (bits_at t.slots.items k.minor).class ≤ first)
@@ -126,7 +125,7 @@ module _ (t : Table) (i : IsSlabTable t) (class first number : ℕ) (bits : Bits
       }
 
   pub chart_place : number < vec_len t.chart.firsts
-  chart_place = let low = i.free.in_slots number was_free in let room = i.chart_room in omega arith
+  chart_place = omega (arith, i.free.in_slots number was_free, i.chart_room)
 
   -- its first page stands at its number, and its pages have no other number
   pub charted_added : (chart : Chart) → chart.firsts.items ≡ set t.chart.firsts.items number first → ((page n : ℕ) → map_of.get chart.pages.numbers page ≡ Some n → (HasPage first (pages_at class) page × (number ≡ n)) ⊎ (map_of.get t.chart.pages.numbers page ≡ Some n)) → IsCharted slots keys chart
@@ -224,11 +223,9 @@ module _ (t : Table) (i : IsSlabTable t) (slab : Key) (there : Contains t.firsts
 
   -- each other slab is as it was
   pub kept_less : AreSlabKeys t.slots.items rest_keys
-  kept_less = record {
-    slab = λ k m. i.kept.slab k (without_from t.firsts.keys slab k m).0;
-    apart = λ k l m n. i.kept.apart k l (without_from t.firsts.keys slab k m).0 (without_from t.firsts.keys slab l n).0;
-    numbers = λ k l m n. i.kept.numbers k l (without_from t.firsts.keys slab k m).0 (without_from t.firsts.keys slab l n).0;
-  }
+  kept_less =
+      let old = without_from t.firsts.keys slab in
+      record { slab = λ k m. i.kept.slab k (old k m).0; apart = λ k l m n. i.kept.apart k l (old k m).0 (old l n).0; numbers = λ k l m n. i.kept.numbers k l (old k m).0 (old l n).0 }
 
   binned_less : IsBinned t.slots.items rest_keys (without_key t.bins.keys (bin_of t.slots.items slab))
   binned_less = record {

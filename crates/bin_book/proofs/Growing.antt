@@ -11,10 +11,7 @@ range_more a zero = grind arith
 range_more a (suc n) = grind (arith, range_more (a + 1) n)
 
 pub numbers_more : (old free new : List ℕ) (a number m : ℕ) → a ≤ number → m ≡ number → free ≡ old ++ range_with_len a (number - a) → new ≡ free ++ m ∷ [] → new ≡ old ++ range_with_len a (number + 1 - a)
-numbers_more old free new a number m le is e f =
-    let len : number + 1 - a ≡ suc (number - a) = omega arith in
-    let last : m ≡ a + (number - a) = omega arith in
-    f ∙ ap (λ xs. xs ++ m ∷ []) e ∙ append_assoc old (range_with_len a (number - a)) (m ∷ []) ∙ ap (λ xs. old ++ xs) (ap (λ x. range_with_len a (number - a) ++ x ∷ []) last ∙ sym (range_more a (number - a)) ∙ ap (range_with_len a) (sym len))
+numbers_more old free new a number m le is e f = grind (arith, range_more a (number - a), append_assoc {A = ℕ}, le, is, e, f)
 
 pub bits_more : (old slots new : List Bits) (b : Bits) (n len : ℕ) → n < len → len ≤ length slots → new ≡ slots ++ b ∷ [] → bits_at slots n ≡ bits_at old n → bits_at new n ≡ bits_at old n
 bits_more old slots new b n len l few e same = ap (λ xs. bits_at xs n) e ∙ get_or_append_left slots (b ∷ []) no_bits n (omega arith) ∙ same

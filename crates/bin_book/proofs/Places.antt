@@ -1,5 +1,5 @@
 -- The places of a slab with their addresses, and slabs under their keys, as bits are written.
-use Rattle.bin_book.proofs.Words.{◌≡◌, ℕ, ◌+◌, ◌-◌, ◌*◌, ◌++◌, ◌<◌, ◌≤◌, zero, suc, Bool, true, false, not, ◌&&◌, ◌||◌, eqb, List, [], ◌∷◌, length, map, filter, get_or, set, count_by, position, Some, inl, inr, refl, sym, ap, ◌∙◌, arith, ◌≢◌, ◌^◌, ◌⊎◌, subst, Contains, range_with_len, mul-le-mul_right, cases_Bool, cases_eq, eq-eqb, eqb-true, false_from_ne_true, get_or-set_at, get_or-set_other, get_or-set_same, position-Some, length-filter, sum_by-cons, size_at, pages_at, regions_at, size_bounds, slab_filled, filter_from, filter_has, with_from, with_keeps, with_self, without_from, without_keeps, is_among, place, with_free, with_regions_out, ones, slab_of, IsBinned, IsCharted, AreSlabKeys, IsMoved, IsSlabIn, bin_key, bin_of, bits_at, left_of, no_bits, slab_at, any_has, any_none, bit, filter_both, filter_map_is, filter_same, map_has, map_from, range_from, range_has, count_map, count_same, tied_itself, Bits, Key, with_key, without_key, key_tie, key_total, Chart, HasPage}
+use Rattle.bin_book.proofs.Words.{any_map, ◌≡◌, ℕ, ◌+◌, ◌-◌, ◌*◌, ◌++◌, ◌<◌, ◌≤◌, zero, suc, Bool, true, false, not, ◌&&◌, ◌||◌, eqb, List, [], ◌∷◌, length, map, filter, get_or, set, count_by, position, Some, inl, inr, refl, sym, ap, ◌∙◌, arith, ◌≢◌, ◌^◌, ◌⊎◌, subst, Contains, range_with_len, mul-le-mul_right, cases_Bool, cases_eq, eq-eqb, eqb-true, false_from_ne_true, get_or-set_at, get_or-set_other, get_or-set_same, position-Some, length-filter, sum_by-cons, size_at, pages_at, regions_at, size_bounds, slab_filled, filter_from, filter_has, with_from, with_keeps, with_self, without_from, without_keeps, is_among, place, with_free, with_regions_out, ones, slab_of, IsBinned, IsCharted, AreSlabKeys, IsMoved, IsSlabIn, bin_key, bin_of, bits_at, left_of, no_bits, slab_at, any_has, any_none, bit, filter_both, filter_map_is, filter_same, map_has, map_from, range_from, range_has, count_map, count_same, tied_itself, Bits, Key, with_key, without_key, key_tie, key_total, Chart, HasPage}
 use Rattle.std.proofs.lemmas.List.Elements.{filter-append}
 
 -- ---- free places, by their numbers
@@ -94,20 +94,13 @@ key_cases a b = grind (arith, key_tie a b, tied_itself key_total a)
 -- a key in place of another one
 pub moved : (old mid new : List Key) (was now : Key) → mid ≡ without_key old was → new ≡ with_key mid now → IsMoved old new was now
 moved old mid new was now first second = record {
-  keeps = λ k m ne. subst (λ ks. Contains ks k) (sym second) (with_keeps mid now k (subst (λ ks. Contains ks k) (sym first) (without_keeps old was k m ne)));
-  now_there = subst (λ ks. Contains ks now) (sym second) (with_self mid now);
-  from = λ k m. elim (with_from mid now k (subst (λ ks. Contains ks k) second m)) [
-    | inl e ↦ inl e
-    | inr d ↦ inr (without_from old was k (subst (λ ks. Contains ks k) first d))
-  ];
+  keeps = λ k m ne. rw (second, first) (with_keeps (without_key old was) now k (without_keeps old was k m ne));
+  now_there = rw second (with_self mid now);
+  from = λ k m. grind (arith, with_from mid now k (rw second at m), without_from old was k, first);
 }
 
 pub unmoved : (keys : List Key) (was now : Key) → was ≡ now → Contains keys was → IsMoved keys keys was now
-unmoved keys was now e m = record {
-  keeps = λ k n ne. n;
-  now_there = subst (Contains keys) e m;
-  from = λ k n. elim (key_cases k was) [ inl s ↦ inl (s ∙ e) | inr ne ↦ inr (n, ne) ];
-}
+unmoved keys was now e m = record { keeps = λ k n ne. n; now_there = subst (Contains keys) e m; from = λ k n. grind (arith, key_cases k was, e, n) }
 
 -- the key of a slab among those of its class tells its key
 pub same_slab : (class d : ℕ) (a b : Bool) (k l : Key) → k.minor < 2 ^ 32 → l.minor < 2 ^ 32 → bin_key class a k ≡ bin_key d b l → k ≡ l
@@ -201,5 +194,4 @@ module _ (slots : List Bits) (keys : List Key) (kept : AreSlabKeys slots keys) (
   pub bin_absent : (small : (k : Key) → Contains keys k → k.minor < 2 ^ 32) (bins : List Key) → IsBinned slots keys bins → (full : Bool) → bin_key new.class full key ≢ bin_of slots key → Contains bins (bin_key new.class full key) → ⊥
   bin_absent small bins binned full ne m =
       let p = binned.from _ m in
-      let e : p.0 ≡ key = same_slab _ _ _ _ p.0 key (small p.0 p.1) (small key there) p.2 in
-      ne (sym p.2 ∙ ap (bin_of slots) e)
+      ne (sym p.2 ∙ ap (bin_of slots) (same_slab _ _ _ _ p.0 key (small p.0 p.1) (small key there) p.2))

@@ -33,9 +33,7 @@ module _ (slots : List Bits) (codes : List ℕ) where
       let b = bits_at slots key.minor in
       let p = map_from (slab_region slots codes key) (zeros (regions_at b.class) b.free) r m in
       let q = filter_from (λ i. not (get_or b.free i false)) (range_with_len 0 (regions_at b.class)) p.0 p.1 in
-      let low = range_from 0 (regions_at b.class) p.0 q.0 in
-      let out : get_or b.free p.0 false ≡ false = grind (arith, q.1) in
-      (p.0, record { there = head key []; low = omega (arith, low.1); out = out; is = p.2 })
+      (p.0, record { there = head key []; low = omega (arith, (range_from 0 (regions_at b.class) p.0 q.0).1); out = grind (arith, q.1); is = p.2 })
 
   pub out_from : (keys : List Key) (r : Region) → Contains (out_of_slabs slots codes keys) r → (key : Key) × (n : ℕ) × IsOutRegion slots codes keys r key n
   unfolding out_of_slabs

@@ -89,11 +89,7 @@ some_position bits some = elim (cases_lt (position_or_len (λ b. b) bits) (lengt
 -- the bits that were read and those after the lowest free region was taken
 pub taken_bits : (bits read new : Bits) (r : Option ℕ) (n : ℕ) → read ≡ bits → r ≡ Some n → r ≡ position (λ b. b) read.free → IfSome r (λ i. i < regions_at read.class) → IfSome r (λ i. new ≡ record { class = read.class; free = set read.free i false })
     → (position (λ b. b) bits.free ≡ Some n) × (n < regions_at bits.class) × (new ≡ with_bit bits n false)
-taken_bits bits read new r n e some is inside taken = (
-  ap (λ (b : Bits). position (λ b. b) b.free) (sym e) ∙ sym is ∙ some,
-  subst (λ (b : Bits). n < regions_at b.class) e (subst (λ o. IfSome o (λ i. i < regions_at read.class)) some inside),
-  subst (λ o. IfSome o (λ i. new ≡ record { class = read.class; free = set read.free i false })) some taken ∙ ap (λ (b : Bits). with_bit b n false) e,
-)
+taken_bits bits read new r n e some is inside taken = grind (arith, e, some, is, inside, taken)
 
 -- a slab of which one bit is written, as long as a region of it is out
 pub bit_written : (bits : Bits) (first i : ℕ) (v : Bool) → IsSlabIn bits first → i < regions_at bits.class → count_by (λ b. b) (set bits.free i v) < regions_at bits.class → IsSlabIn (with_bit bits i v) first
@@ -181,9 +177,7 @@ module _ (t : Table) (i : IsSlabTable t) (class : ℕ) (key : Key) (o : IsLowest
   is_free = (position-Some (λ b. b) bits.free n false found).1
 
   pub taken_in : IsSlabIn (with_bit bits n false) key.major
-  taken_in =
-      let is = i.kept.slab key o.there in
-      bit_written bits key.major n false is low (let less = fewer_left bits.free n within is_free in let some = is.some_out in omega arith)
+  taken_in = bit_written bits key.major n false (i.kept.slab key o.there) low (omega (arith, fewer_left bits.free n within is_free, (i.kept.slab key o.there).some_out))
 
   -- each slab is without the address
   taken_here : slab_of (with_bit bits n false) key.major ≡ with_regions_out (addr ∷ []) (slab_at t.slots.items key)
@@ -231,7 +225,7 @@ module _ (t : Table) (i : IsSlabTable t) (class addr : ℕ) (key : Key) (n : ℕ
   left_put = more_left old.free n within_bits o.out.out
 
   pub put_in : left_of old + 1 < regions_at class → IsSlabIn (with_bit old n true) key.major
-  put_in others = bit_written old key.major n true (i.kept.slab key o.there) inside_regions (subst (λ m. m < regions_at old.class) (sym left_put) (subst (λ c. left_of old + 1 < regions_at c) (sym o.out.of_class) others))
+  put_in others = bit_written old key.major n true (i.kept.slab key o.there) inside_regions (grind (arith, left_put, o.out.of_class, others))
 
   pub put_here : slab_of (with_bit old n true) key.major ≡ with_free addr (slab_at t.slots.items key)
   put_here = freed_slab old.class key.major addr old.free (set old.free n true) (i.kept.slab key o.there).small (λ j l.

@@ -16,9 +16,6 @@ overflow_sub-offset c =
     let below = last.below in
     omega arith
 
-pub has_out-requires-clause-there : goal.has_out-requires-clause-there
-has_out-requires-clause-there c = (c.requires.last).there
-
 -- what is out there
 out : (c : goal.Then-offset-size-eq0) → HasOut (bits_at c.args.self.now.slots.items c.args.slab.minor) c.args.class ((c.args.addr - 4096 * c.args.slab.major) / c.size_of-size.result)
 out c = c.has_out.ensures.0 c.if-has_out.true
@@ -28,9 +25,6 @@ there c = out_at c.args.self.now c.requires.table c.args.class c.args.addr c.req
 
 pub overflow_cast-result : goal.overflow_cast-result
 overflow_cast-result c = let low = (out c).inside in let most = (slab_filled c.args.class c.requires.class).2 in record { fits = omega arith }
-
-pub returns-then-offset-size-eq0-clause-some : goal.returns-then-offset-size-eq0-clause-some
-returns-then-offset-size-eq0-clause-some c = there c
 
 pub returns-then-offset-size-eq0-clause-none : goal.returns-then-offset-size-eq0-clause-none
 returns-then-offset-size-eq0-clause-none c = out_somewhere c.args.self.now c.requires.table c.args.class c.args.addr c.args.slab _ (there c)
