@@ -1,5 +1,5 @@
 -- A slab comes, or goes.
-use Rattle.bin_book.proofs.Words.{is_eq, tied_itself, Some, None, ◌≡◌, ◌≢◌, ℕ, ◌+◌, ◌-◌, ◌*◌, ◌^◌, ◌<◌, ◌≤◌, Bool, false, eqb, ltb, List, [], ◌∷◌, ◌++◌, length, length-set, map, filter, get_or, set, count_by, ◌⊎◌, inl, inr, refl, sym, ap, ◌∙◌, subst, arith, Contains, vec_len, vec_capacity, zero, slice_get, list_any, range_with_len, cases_eq, cases_lt, eq-eqb, get_or-set_at, nat_tests, get_or-set_other, get_or-set_same, length-map, map-append, Contains-append_left, Contains-push, Contains-push_cases, length-range_with_len, count_by-le-length, sum_by-append, sum_by-cons, pages_at, regions_at, pages_bounds, slab_filled, Region, landing, regions_from, AreFreeFrom, Bits, Key, IsAscending, is_above, is_below, is_from, key_cmp, with_key, without_key, length_with, length_without, key_tie, key_total, filter_from, with_from, with_keeps, with_self, without_from, without_keeps, absent, others_is, parts, present, Chart, Table, addr_of, meets_slab, place, slab_with_out, with_slab, HasPage, holder_at, AreCounts, AreFreeSlots, IsBinned, IsCharted, AreSlabKeys, IsSlabIn, IsSlabTable, bin_key, bin_of, bits_at, left_of, ones, regions_in, out_of_slabs, slab_at, slab_of, slabs_in, slabs_without, count_none, any_false, bit, count_map, count_same, count_some, filter_map_is, filter_same, map_has, map_same, range_from, get_or_from_slice_get, slice_get_within, append-nil, filter_all_of, not, out_of, zeros, IsRising}
+use Rattle.bin_book.proofs.Words.{is_eq, tied_itself, Some, None, ◌≡◌, ◌≢◌, ℕ, ◌+◌, ◌-◌, ◌*◌, ◌^◌, ◌<◌, ◌≤◌, Bool, false, eqb, ltb, List, [], ◌∷◌, ◌++◌, length, length-set, map, filter, get_or, set, count_by, ◌⊎◌, inl, inr, refl, sym, ap, ◌∙◌, subst, arith, Contains, vec_len, vec_capacity, zero, slice_get, list_any, range_with_len, cases_eq, cases_lt, eq-eqb, get_or-set_at, nat_tests, get_or-set_other, get_or-set_same, length-map, map-append, Contains-append_left, Contains-push, Contains-push_cases, length-range_with_len, count_by-le-length, sum_by-append, sum_by-cons, pages_at, regions_at, pages_bounds, slab_filled, Region, landing, regions_from, AreFreeFrom, Bits, Key, IsAscending, is_above, is_below, key_cmp, with_key, without_key, length_with, length_without, key_tie, key_total, filter_from, with_from, with_keeps, with_self, without_from, without_keeps, absent, parts, Chart, Table, addr_of, meets_slab, place, slab_with_out, with_slab, HasPage, holder_at, AreCounts, AreFreeSlots, IsBinned, IsCharted, AreSlabKeys, IsSlabIn, IsSlabTable, bin_key, bin_of, bits_at, left_of, ones, regions_in, out_of_slabs, slab_at, slab_of, slabs_in, slabs_without, count_none, any_false, bit, count_map, count_same, count_some, filter_map_is, filter_same, map_has, map_same, range_from, get_or_from_slice_get, slice_get_within, append-nil, filter_all_of, not, out_of, zeros, IsRising}
 use Rattle.bin_book.proofs.Places.{filter_split, length_ones, bits_here, bits_there, same_slab}
 use Rattle.bin_book.proofs.Taking.{small_numbers}
 use Rattle.bin_book.proofs.Regions.{landing_between, regions_agree, regions_both, regions_first, regions_rise}
@@ -130,16 +130,12 @@ module _ (t : Table) (i : IsSlabTable t) (class first number : ℕ) (bits : Bits
   -- its first page stands at its number, and its pages have no other number
   pub charted_added : (chart : Chart) → chart.firsts.items ≡ set t.chart.firsts.items number first → ((page n : ℕ) → map_of.get chart.pages.numbers page ≡ Some n → (HasPage first (pages_at class) page × (number ≡ n)) ⊎ (map_of.get t.chart.pages.numbers page ≡ Some n)) → IsCharted slots keys chart
   charted_added chart firsts only = record {
-    firsts = λ k m. ap (λ ns. get_or ns k.minor 0) firsts ∙ elim (with_from t.firsts.keys slab k m) [
-      | inl e ↦ subst (λ (z : Key). get_or (set t.chart.firsts.items number first) z.minor 0 ≡ z.major) (sym e) (get_or-set_same t.chart.firsts.items number first 0 (let low = chart_place in let same = t.chart.firsts.ok.0 in omega arith))
-      | inr d ↦ get_or-set_other t.chart.firsts.items number k.minor first 0 (other_number k d) ∙ i.charted.firsts k d
-    ];
+    firsts = λ k m. grind (arith, ap (λ ns. get_or ns k.minor 0) firsts, with_from t.firsts.keys slab k m, get_or-set_same t.chart.firsts.items number first 0 (omega (arith, chart_place, t.chart.firsts.ok.0)), get_or-set_other t.chart.firsts.items number k.minor first 0, other_number k, i.charted.firsts k);
     holders = λ page n e. elim (only page n e) [
       | inl p ↦ (slab, record { there = with_self t.firsts.keys slab; at = p.1; has = subst (λ c. HasPage first (pages_at c) page) (sym (ap (λ (b : Bits). b.class) (bits_here t.slots.items number number bits in_items refl) ∙ is)) p.0 })
       | inr old ↦
           let h = i.charted.holders page n old in
-          let there = h.1.there in
-          (h.0, record { there = with_keeps t.firsts.keys slab h.0 there; at = h.1.at; has = subst (λ (b : Bits). HasPage h.0.major (pages_at b.class) page) (sym (bits_there t.slots.items number h.0.minor bits (other_number h.0 there))) h.1.has })
+          (h.0, record { there = with_keeps t.firsts.keys slab h.0 h.1.there; at = h.1.at; has = subst (λ (b : Bits). HasPage h.0.major (pages_at b.class) page) (sym (bits_there t.slots.items number h.0.minor bits (other_number h.0 h.1.there))) h.1.has })
     ];
   }
 
@@ -154,8 +150,15 @@ module _ (t : Table) (i : IsSlabTable t) (class first number : ℕ) (bits : Bits
   }
 
   class_count : (c : ℕ) → count_by (λ s. eqb s.class c) (map (slab_at slots) keys) ≡ count_by (λ s. eqb s.class c) (map (slab_at t.slots.items) t.firsts.keys) + bit (eqb class c)
-  class_count c = grind (arith, count_map (slab_at slots) (λ s. eqb s.class c) keys, count_with (λ k. eqb (bits_at slots k.minor).class c) t.firsts.keys slab i.ascending new_key, count_map (slab_at t.slots.items) (λ s. eqb s.class c) t.firsts.keys, is, bits_here t.slots.items number number bits in_items,
-      count_same (λ k. eqb (bits_at slots k.minor).class c) (λ k. eqb (bits_at t.slots.items k.minor).class c) t.firsts.keys (λ k m. ap (λ (b : Bits). eqb b.class c) (bits_there t.slots.items number k.minor bits (other_number k m))))
+  class_count c = grind (
+    arith,
+    count_map (slab_at slots) (λ s. eqb s.class c) keys,
+    count_with (λ k. eqb (bits_at slots k.minor).class c) t.firsts.keys slab i.ascending new_key,
+    count_map (slab_at t.slots.items) (λ s. eqb s.class c) t.firsts.keys,
+    is,
+    bits_here t.slots.items number number bits in_items,
+    count_same (λ k. eqb (bits_at slots k.minor).class c) (λ k. eqb (bits_at t.slots.items k.minor).class c) t.firsts.keys (λ k m. ap (λ (b : Bits). eqb b.class c) (bits_there t.slots.items number k.minor bits (other_number k m))),
+  )
 
   counts_added : (small : class < 36) → AreCounts (set t.counts class (get_or t.counts class 0 + 1)) (map (slab_at slots) keys)
   unfolding slabs_in
@@ -254,12 +257,7 @@ module _ (t : Table) (i : IsSlabTable t) (slab : Key) (there : Contains t.firsts
   free_more = record {
     in_slots = λ n m. grind (arith, Contains-push_cases t.free.items slab.minor n m, i.free.in_slots n, i.in_slots slab there);
     unused = λ n k m o f. let p = without_from t.firsts.keys slab k o in grind (arith, Contains-push_cases t.free.items slab.minor n m, i.free.unused n k, i.kept.numbers k slab p.0 there, p.0, p.1, f);
-    once = λ n.
-        let whole = sum_by-append (λ m. bit (eqb m n)) t.free.items (slab.minor ∷ []) in
-        let one = sum_by-cons (λ m. bit (eqb m n)) slab.minor [] in
-        let most = i.free.once n in
-        let none = λ (is : slab.minor ≡ n). count_zero t.free.items n (λ m. i.free.unused n slab m there is) in
-        grind (arith, nat_tests, whole, one, most, none);
+    once = λ n. grind (arith, nat_tests, sum_by-append (λ m. bit (eqb m n)) t.free.items (slab.minor ∷ []), sum_by-cons (λ m. bit (eqb m n)) slab.minor [], i.free.once n, (λ (is : slab.minor ≡ n). count_zero t.free.items n (λ m. i.free.unused n slab m there is)));
   }
 
   abbrev class_of_slab : ℕ

@@ -1,5 +1,5 @@
 -- The pages of a slab get its number.
-use Rattle.bin_book.proofs.Words.{Bool, leb, ◌≡◌, ℕ, ◌+◌, ◌-◌, ◌/◌, ◌<◌, ◌≤◌, true, false, if◌then◌else◌, cond, eqb, ◌||◌, ◌⊎◌, Some, None, refl, ap, ◌∙◌, arith, nat_cmp, nat_cmp_total, unsigned_tied, nat_tests, leb-true, eq-eqb, class_sizes, least_pages, pages_at, at, passes_below, Pages, HasPage}
+use Rattle.bin_book.proofs.Words.{Bool, leb, ◌≡◌, ℕ, ◌+◌, ◌-◌, ◌/◌, ◌<◌, ◌≤◌, true, if◌then◌else◌, cond, eqb, ◌⊎◌, Some, None, refl, ap, ◌∙◌, arith, nat_cmp, nat_cmp_total, unsigned_tied, nat_tests, leb-true, class_sizes, least_pages, pages_at, at, passes_below, Pages, HasPage}
 use Rattle.std.specs.FinMap as map_of
 use Rattle.std.specs.FinSet as set_of
 

@@ -1,5 +1,5 @@
 -- More slots.
-use Rattle.bin_book.proofs.Words.{nat_cmp, append-nil, append_assoc, ◌≡◌, ℕ, ◌+◌, ◌-◌, ◌*◌, ◌^◌, ◌<◌, ◌≤◌, zero, suc, eqb, List, [], ◌∷◌, ◌++◌, length, map, get_or, count_by, inl, inr, sym, ap, ◌∙◌, subst, arith, Contains, Some, None, refl, vec_len, vec_capacity, range_with_len, IsStrictlySortedBy, cases_lt, nat_tests, get_or_append_left, Contains-append_cases, sum_by-append, sum_by-cons, pages_at, slab_filled, Key, IsAscending, Bits, Chart, Table, BinSlab, Grows, HasPage, holder_at, AreFreeSlots, IsBinned, IsCharted, AreSlabKeys, IsSlabIn, IsSlabTable, AreCounts, bin_key, bits_at, left_of, no_bits, regions_in, out_of_slabs, slab_at, slab_of, slabs_in, bit, map_same, range_from}
+use Rattle.bin_book.proofs.Words.{nat_cmp, append-nil, append_assoc, ◌≡◌, ℕ, ◌+◌, ◌-◌, ◌*◌, ◌^◌, ◌<◌, ◌≤◌, zero, suc, eqb, List, [], ◌∷◌, ◌++◌, length, map, get_or, count_by, sym, ap, ◌∙◌, subst, arith, Contains, Some, None, vec_len, vec_capacity, range_with_len, IsStrictlySortedBy, cases_lt, nat_tests, get_or_append_left, Contains-append_cases, sum_by-append, sum_by-cons, pages_at, slab_filled, Key, IsAscending, Bits, Chart, Table, BinSlab, Grows, HasPage, holder_at, AreFreeSlots, IsBinned, IsCharted, AreSlabKeys, IsSlabIn, IsSlabTable, AreCounts, bin_key, bits_at, left_of, no_bits, regions_in, out_of_slabs, slab_at, slab_of, slabs_in, bit, map_same, range_from}
 use Rattle.bin_book.proofs.Regions.{regions_agree}
 use Rattle.bin_book.proofs.Adding.{count_zero}
 use Rattle.std.proofs.Common.{rules}
@@ -63,17 +63,14 @@ module _ (t u : Table) (i : IsSlabTable t) (firsts : u.firsts.keys ≡ t.firsts.
   slabs_grown = rw firsts (map_same (slab_at u.slots.items) (slab_at t.slots.items) t.firsts.keys (λ k m. ap (λ (b : Bits). slab_of b k.major) (same_bits k m)))
 
   free_grown : (le : vec_len t.slots ≤ vec_len u.slots) → AreFreeSlots (t.free.items ++ range_with_len (vec_len t.slots) (vec_len u.slots - vec_len t.slots)) t.firsts.keys (vec_len u.slots)
-  free_grown le = record {
-    in_slots = λ n m. grind (arith, Contains-append_cases t.free.items _ n m, i.free.in_slots n, range_from (vec_len t.slots) (vec_len u.slots - vec_len t.slots) n);
-    unused = λ n k m o. grind (arith, Contains-append_cases t.free.items _ n m, i.free.unused n k, range_from (vec_len t.slots) (vec_len u.slots - vec_len t.slots) n, i.in_slots k o);
-    once = λ n.
-        let whole = sum_by-append (λ m. bit (eqb m n)) t.free.items (range_with_len (vec_len t.slots) (vec_len u.slots - vec_len t.slots)) in
-        let few = i.free.once n in
-        elim (cases_lt n (vec_len t.slots)) [
-          | inl l ↦ let none = count_low (vec_len t.slots) (vec_len u.slots - vec_len t.slots) n l in omega arith
-          | inr g ↦ let none = count_zero t.free.items n (λ m. let low = i.free.in_slots n m in omega arith) in let one = count_range (vec_len t.slots) (vec_len u.slots - vec_len t.slots) n in omega arith
-        ];
-  }
+  free_grown le =
+      let range = range_with_len (vec_len t.slots) (vec_len u.slots - vec_len t.slots) in
+      let new = range_from (vec_len t.slots) (vec_len u.slots - vec_len t.slots) in
+      record {
+        in_slots = λ n m. grind (arith, Contains-append_cases t.free.items range n m, i.free.in_slots n, new n);
+        unused = λ n k m o. grind (arith, Contains-append_cases t.free.items range n m, i.free.unused n k, new n, i.in_slots k o);
+        once = λ n. grind (arith, sum_by-append (λ m. bit (eqb m n)) t.free.items range, i.free.once n, cases_lt n (vec_len t.slots), count_low (vec_len t.slots) (vec_len u.slots - vec_len t.slots) n, count_range (vec_len t.slots) (vec_len u.slots - vec_len t.slots) n, (λ (g : vec_len t.slots ≤ n). count_zero t.free.items n (λ m. omega (arith, i.free.in_slots n m))));
+      }
 
   pub table_grown : vec_len t.slots ≤ vec_len u.slots → u.free.items ≡ t.free.items ++ range_with_len (vec_len t.slots) (vec_len u.slots - vec_len t.slots) → vec_len u.free + vec_len t.slots ≡ vec_len t.free + vec_len u.slots
       → vec_len u.slots < 2 ^ 32 → vec_len u.slots ≤ vec_capacity u.free → vec_len u.slots ≤ vec_len u.chart.firsts → vec_len u.free ≤ u.firsts.spare → vec_len u.free ≤ u.bins.spare → 512 * vec_len u.slots ≤ length u.holders → IsSlabTable u

@@ -1,6 +1,5 @@
 -- The lowest keys of a set, as a key comes or goes.
-use Rattle.std.proofs.Common.{rules}
-use Rattle.bin_book.proofs.Words.{◌≡◌, ◌≢◌, ℕ, ◌*◌, ◌<◌, ◌/◌, ◌≤◌, true, false, List, [], ◌∷◌, find, get_or, set, length, Option, Some, None, ◌⊎◌, inl, inr, refl, sym, ap, ◌∙◌, subst, arith, Contains, Less, MatchOption, IsStrictlySortedBy, cases_eq, cases_lt, get_or-set_other, get_or-set_same, Key, IsAscending, is_from, key_cmp, with_key, without_key, with_from, with_keeps, with_self, without_from, without_keeps, contains_cases, first_of, less_parts, start, start_from, every_member, AreLowest, IsLeast, IsLowest, found}
+use Rattle.bin_book.proofs.Words.{◌≡◌, ◌≢◌, ℕ, ◌*◌, ◌<◌, ◌/◌, ◌≤◌, true, false, List, [], ◌∷◌, find, get_or, set, length, Option, Some, None, ◌⊎◌, inl, inr, refl, sym, ap, subst, arith, Contains, Less, MatchOption, IsStrictlySortedBy, cases_eq, get_or-set_other, get_or-set_same, Key, IsAscending, is_from, key_cmp, with_key, without_key, with_from, with_keeps, with_self, without_from, without_keeps, contains_cases, first_of, less_parts, start, start_from, every_member, AreLowest, IsLeast, IsLowest, found}
 
 -- the first key from a start on is below each other one from there on
 least : (ks : List Key) (first y x : Key) → IsAscending ks → find (is_from first) ks ≡ Some y → Contains ks x → is_from first x ≡ true → (y ≡ x) ⊎ (key_cmp y x ≡ Less)

@@ -1,5 +1,5 @@
 -- The places of a slab with their addresses, and slabs under their keys, as bits are written.
-use Rattle.bin_book.proofs.Words.{any_map, ◌≡◌, ℕ, ◌+◌, ◌-◌, ◌*◌, ◌++◌, ◌<◌, ◌≤◌, zero, suc, Bool, true, false, not, ◌&&◌, ◌||◌, eqb, List, [], ◌∷◌, length, map, filter, get_or, set, count_by, position, Some, inl, inr, refl, sym, ap, ◌∙◌, arith, ◌≢◌, ◌^◌, ◌⊎◌, subst, Contains, range_with_len, mul-le-mul_right, cases_Bool, cases_eq, eq-eqb, eqb-true, false_from_ne_true, get_or-set_at, get_or-set_other, get_or-set_same, position-Some, length-filter, sum_by-cons, size_at, pages_at, regions_at, size_bounds, slab_filled, filter_from, filter_has, with_from, with_keeps, with_self, without_from, without_keeps, is_among, place, with_free, with_regions_out, ones, slab_of, IsBinned, IsCharted, AreSlabKeys, IsMoved, IsSlabIn, bin_key, bin_of, bits_at, left_of, no_bits, slab_at, any_has, any_none, bit, filter_both, filter_map_is, filter_same, map_has, map_from, range_from, range_has, count_map, count_same, tied_itself, Bits, Key, with_key, without_key, key_tie, key_total, Chart, HasPage}
+use Rattle.bin_book.proofs.Words.{nat_tests, any_map, ◌≡◌, ℕ, ◌+◌, ◌-◌, ◌*◌, ◌++◌, ◌<◌, ◌≤◌, zero, suc, Bool, true, false, not, ◌&&◌, ◌||◌, eqb, List, [], ◌∷◌, length, map, filter, get_or, set, count_by, position, Some, inl, inr, refl, sym, ap, ◌∙◌, arith, ◌≢◌, ◌^◌, ◌⊎◌, subst, Contains, range_with_len, mul-le-mul_right, cases_Bool, cases_eq, eq-eqb, get_or-set_at, get_or-set_other, get_or-set_same, position-Some, length-filter, sum_by-cons, size_at, pages_at, regions_at, size_bounds, slab_filled, filter_from, filter_has, with_from, with_keeps, with_self, without_from, without_keeps, is_among, place, with_free, with_regions_out, ones, slab_of, IsBinned, IsCharted, AreSlabKeys, IsMoved, IsSlabIn, bin_key, bin_of, bits_at, left_of, no_bits, slab_at, any_has, any_none, bit, filter_both, filter_map_is, filter_same, map_has, range_from, range_has, count_map, count_same, tied_itself, Bits, Key, with_key, without_key, key_tie, key_total, Chart, HasPage}
 use Rattle.std.proofs.lemmas.List.Elements.{filter-append}
 
 -- ---- free places, by their numbers
@@ -48,11 +48,7 @@ among_ones class first n j bits small low = elim (cases_Bool (get_or bits j fals
   | inl t ↦
       any_has (λ a. eqb a (place class first j)) (map (place class first) (ones n bits)) (place class first j)
       (map_has (place class first) (ones n bits) j (filter_has (λ i. get_or bits i false) (range_with_len 0 n) j (range_has 0 n j (omega arith) (omega arith)) t)) (eq-eqb _ _ refl) ∙ sym t
-  | inr f ↦ any_none (λ a. eqb a (place class first j)) (map (place class first) (ones n bits)) (λ a m.
-      let p = map_from (place class first) (ones n bits) a m in
-      let q = filter_from (λ i. get_or bits i false) (range_with_len 0 n) p.0 p.1 in
-      false_from_ne_true _ (λ e. let is : p.0 ≡ j = same_place class first p.0 j small (p.2 ∙ eqb-true a (place class first j) e) in
-      let no : get_or bits j false ≡ true = ap (λ i. get_or bits i false) (sym is) ∙ q.1 in cc)) ∙ sym f
+  | inr f ↦ any_map (place class first) (λ a. eqb a (place class first j)) (ones n bits) ∙ any_none _ (ones n bits) (λ i m. grind (arith, nat_tests, filter_from (λ i. get_or bits i false) (range_with_len 0 n) i m, same_place class first i j small, f)) ∙ sym f
 ]
 
 -- a slab some of whose places become free
@@ -123,18 +119,12 @@ bits_there slots n m b ne = get_or-set_other slots n m b no_bits ne
 pub one_place : (slots : List Bits) (keys : List Key) → AreSlabKeys slots keys → (k l : Key) → Contains keys k → Contains keys l → (i j : ℕ) → i < regions_at (bits_at slots k.minor).class → j < regions_at (bits_at slots l.minor).class
     → place (bits_at slots k.minor).class k.major i ≡ place (bits_at slots l.minor).class l.major j → (k ≡ l) × (i ≡ j)
 one_place slots keys kept k l m n i j inside within e =
-    let low = place_inside (bits_at slots l.minor).class l.major j (kept.slab l n).small within in
-    let high = place_inside (bits_at slots k.minor).class k.major i (kept.slab k m).small inside in
-    same (grind (arith, kept.apart l k n m, kept.apart k l m n, low, high, some_size k m, some_size l n, e))
-  where
-    some_size : (k : Key) → Contains keys k → 0 < size_at (bits_at slots k.minor).class
-    some_size k m = let s = (kept.slab k m).small in let size = (size_bounds (bits_at slots k.minor).class (omega arith)).0 in omega arith
-
-    same : k ≡ l → (k ≡ l) × (i ≡ j)
-    same s =
-        let c = (bits_at slots k.minor).class in
-        let there : place c k.major i ≡ place c k.major j = e ∙ sym (ap (λ (z : Key). place (bits_at slots z.minor).class z.major j) s) in
-        (s, same_place c k.major i j (kept.slab k m).small there)
+    let small = (kept.slab k m).small in
+    let small' = (kept.slab l n).small in
+    let low = place_inside (bits_at slots l.minor).class l.major j small' within in
+    let high = place_inside (bits_at slots k.minor).class k.major i small inside in
+    let same : k ≡ l = grind (arith, kept.apart l k n m, kept.apart k l m n, low, high, size_bounds (bits_at slots k.minor).class, size_bounds (bits_at slots l.minor).class, e) in
+    (same, same_place (bits_at slots k.minor).class k.major i j small (e ∙ sym (ap (λ (z : Key). place (bits_at slots z.minor).class z.major j) same)))
 
 -- ---- a slab whose bits change
 

@@ -1,5 +1,5 @@
 -- The regions that are out, by address, and some that land among others.
-use Rattle.bin_book.proofs.Words.{◌≡◌, ℕ, ◌+◌, ◌*◌, ◌<◌, ◌≤◌, zero, suc, Bool, true, false, not, List, [], ◌∷◌, ◌++◌, map, filter, find, get_or, Some, None, inl, inr, refl, sym, ap, ◌∙◌, subst, arith, Contains, Less, flat_map, list_any, range_with_len, IsStrictlySortedBy, mul-le-mul_right, cases_Bool, eq-eqb, Contains-append_cases, Contains-append_left, Contains-append_right, regions_at, size_at, size_bounds, Region, starts_at, landing, Bits, Key, IsAscending, key_cmp, contains_cases, contains_later, filter_from, filter_has, less_major, every_member, addr_of, place, holder_at, AreSlabKeys, bits_at, out_of, slab_region, out_of_slabs, zeros, IsRising, behind_members, not_found, rising_both, member_found, any_has, head, map_from, map_has, range_from, range_has, inserted, append_assoc, nat_tests, filter_all_of}
+use Rattle.bin_book.proofs.Words.{is_some_find, ◌≡◌, ℕ, ◌+◌, ◌*◌, ◌<◌, ◌≤◌, zero, suc, Bool, true, false, not, List, [], ◌∷◌, ◌++◌, map, filter, find, get_or, Some, None, inl, inr, refl, sym, ap, ◌∙◌, subst, arith, Contains, Less, flat_map, list_any, range_with_len, IsStrictlySortedBy, mul-le-mul_right, cases_Bool, Contains-append_cases, Contains-append_left, Contains-append_right, regions_at, size_at, size_bounds, Region, starts_at, landing, Bits, Key, IsAscending, key_cmp, contains_cases, contains_later, filter_from, filter_has, less_major, every_member, addr_of, place, holder_at, AreSlabKeys, bits_at, out_of, slab_region, out_of_slabs, zeros, IsRising, behind_members, rising_both, member_found, head, map_from, map_has, range_from, range_has, inserted, append_assoc, nat_tests, filter_all_of}
 use Rattle.bin_book.proofs.Taking.{less_ne}
 use Rattle.list_facts.proofs.ByKey.{absent_filter, none_behind}
 use Rattle.ordered_set.proofs.Sorted.{every_right}
@@ -135,7 +135,7 @@ regions_first slots codes key ks = refl
 
 -- nothing is found where no region passes the test
 pub none_passes : (rs : List Region) (a : ℕ) → false ≡ list_any (starts_at a) rs → None ≡ find (starts_at a) rs
-none_passes rs a e = sym (not_found addr_of rs a (λ r m at. let yes = any_has (starts_at a) rs r m (eq-eqb r.addr a at) in let no : false ≡ true = e ∙ yes in cc))
+none_passes rs a e = grind (arith, is_some_find (starts_at a) rs, e)
 
 -- ---- regions between others
 

@@ -1,5 +1,5 @@
 -- Region after region is taken.
-use Rattle.bin_book.proofs.Words.{zero, suc, ◌≡◌, ℕ, ◌+◌, ◌≤◌, not, ◌&&◌, eqb, List, [], ◌∷◌, ◌++◌, length, length-append, map, take, append_assoc, refl, sym, ap, ◌∙◌, arith, length_push, length-take-le, take_at, list_any-append, Region, inserted, landing, BinSlab, is_among, with_regions_out, filter_all_of, filter_both, filter_same, map_both}
+use Rattle.bin_book.proofs.Words.{zero, suc, ◌≡◌, ℕ, ◌+◌, ◌≤◌, not, ◌&&◌, eqb, List, [], ◌∷◌, ◌++◌, length, map, take, refl, sym, ap, ◌∙◌, arith, list_any-append, Region, inserted, landing, BinSlab, is_among, with_regions_out, filter_all_of, filter_both, filter_same, map_both}
 use Rattle.std.proofs.lemmas.Grind.{common_steps}
 
 -- one more of a list whose rest begins with it

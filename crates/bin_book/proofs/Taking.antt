@@ -1,5 +1,5 @@
 -- The lowest slab with a free region, a region that is taken out of it or put back, and a slab that leaves.
-use Rattle.bin_book.proofs.Words.{◌≡◌, ◌≢◌, ℕ, ◌+◌, ◌*◌, ◌^◌, ◌<◌, Bool, true, false, eqb, List, [], ◌∷◌, ◌++◌, length, length-append, map, get_or, Option, Some, None, inl, inr, refl, sym, ap, ◌∙◌, subst, arith, Contains, Less, Equal, vec_len, is_some, IfNone, IfSome, ◌≤◌, ltb, length-set, set, count_by, position, vec_capacity, IsSome, not, filter, is_eq, IsStrictlySortedBy, cases_eq, cases_lt, eq-eqb, eqb-true, false_from_ne_true, get_or-set_at, nat_tests, tied_itself, get_or_read_under, length-map, get_or-set_other, Key, IsAscending, key_cmp, KeySet, is_other, without_key, key_total, contains_cases, contains_later, other_from, without_from, less_major, every_member, Bits, regions_at, Table, free_of, place, BinSlab, with_free, with_regions_out, is_all_free, IsLeast, IsLowestOpen, IsSlabTable, AreCounts, bin_of, bits_at, left_of, no_bits, ones, slab_at, slabs_in, IsMoved, IsOutAt, IsSlabIn, bin_key, slab_of, slabs_without, head, bit, map_both, map_same, any_has, any_map, any_none, filter_all_of, filter_map_is, filter_same, map_from, map_has, position_or_len, list_any, position-Some, pages_bounds, slab_filled, fails_before_first, count_none, sum_by-set}
+use Rattle.bin_book.proofs.Words.{◌≡◌, ◌≢◌, ℕ, ◌+◌, ◌*◌, ◌^◌, ◌<◌, Bool, true, false, eqb, List, [], ◌∷◌, length, length-append, map, get_or, Option, Some, None, inl, inr, refl, sym, ap, ◌∙◌, subst, arith, Contains, Less, Equal, vec_len, is_some, IfNone, IfSome, ◌≤◌, ltb, length-set, set, count_by, position, IsSome, not, filter, is_eq, IsStrictlySortedBy, cases_eq, cases_lt, eqb-true, false_from_ne_true, get_or-set_at, nat_tests, tied_itself, get_or_read_under, length-map, get_or-set_other, Key, IsAscending, key_cmp, KeySet, is_other, without_key, key_total, contains_cases, contains_later, other_from, without_from, less_major, every_member, Bits, regions_at, Table, free_of, place, BinSlab, with_free, with_regions_out, is_all_free, IsLeast, IsLowestOpen, IsSlabTable, AreCounts, bin_of, bits_at, left_of, no_bits, ones, slab_at, slabs_in, IsMoved, IsOutAt, IsSlabIn, bin_key, slab_of, slabs_without, head, bit, map_both, map_same, any_has, any_map, any_none, filter_all_of, filter_map_is, filter_same, map_from, map_has, position_or_len, list_any, position-Some, pages_bounds, slab_filled, fails_before_first, count_none, sum_by-set}
 use Rattle.std.proofs.Common.{rules}
 use Rattle.bin_book.proofs.Places.{length_ones, freed_slab, lowest_one, same_place, taken_slab, binned_changed, charted_changed, by_key, counts_stay, is_new, kept_changed, one_place, others_stay, key_cases}
 
@@ -48,9 +48,8 @@ found_open t i class bin key b minor low =
     let minors : p.0.major * 2 ^ 32 + p.0.minor ≡ bin.minor = ap (λ (k : Key). k.minor) p.2 in
     let first : p.0.major ≡ key.major = omega arith in
     let second : p.0.minor ≡ key.minor = omega arith in
-    let is : p.0 ≡ key = (λ k. record { major = first k; minor = second k }) in
     let majors : (bin_of t.slots.items p.0).major ≡ 2 * class = ap (λ (k : Key). k.major) p.2 ∙ b.at in
-    subst (IsLowestOpen t class) is (record {
+    subst (IsLowestOpen t class) (λ k. record { major = first k; minor = second k }) (record {
       there = p.1;
       of_class = grind (arith, nat_tests);
       some_free = grind (arith, nat_tests);
@@ -120,8 +119,23 @@ module _ (t : Table) (i : IsSlabTable t) (key : Key) (there : Contains t.firsts.
       let keys = ap (λ (s : KeySet). s.keys) firsts in
       let in_slots : (k : Key) → Contains u.firsts.keys k → k.minor < vec_len u.slots = rw (keys, len) i.in_slots in
       let same : AreCounts u.counts (slabs_in u) = rw (counts, items, keys) (λ c small. i.counts c small ∙ sym (counts_stay t.slots.items t.firsts.keys i.kept key there in_items new class c)) in
-      search (rules, arith, firsts, items, len, free, counts, chart, codes, i.ascending, kept_changed t.slots.items t.firsts.keys i.kept key there in_items new class is, i.free, i.classes,
-        binned_changed t.slots.items t.firsts.keys i.kept key there in_items new class (small_numbers t i) t.bins.keys u.bins.keys i.binned moved, charted_changed t.slots.items t.firsts.keys i.kept key there in_items new class t.chart i.charted)
+      search (
+        rules,
+        arith,
+        firsts,
+        items,
+        len,
+        free,
+        counts,
+        chart,
+        codes,
+        i.ascending,
+        kept_changed t.slots.items t.firsts.keys i.kept key there in_items new class is,
+        i.free,
+        i.classes,
+        binned_changed t.slots.items t.firsts.keys i.kept key there in_items new class (small_numbers t i) t.bins.keys u.bins.keys i.binned moved,
+        charted_changed t.slots.items t.firsts.keys i.kept key there in_items new class t.chart i.charted,
+      )
 
   -- its slabs, where each is changed so
   pub slabs_changed : (f : BinSlab → BinSlab) → slab_of new key.major ≡ f (slab_at t.slots.items key) → ((k : Key) → Contains t.firsts.keys k → k ≢ key → slab_at t.slots.items k ≡ f (slab_at t.slots.items k))
@@ -144,19 +158,14 @@ unfolding IsStrictlySortedBy
 taken_first old new class a key [] s m before stay c d first = absurd (omega arith)
 taken_first old new class a key (k ∷ ks) s m before stay c d first = elim (contains_cases k ks key m) [
   | inl is ↦
-      let t : eqb (bits_at old k.minor).class class ≡ true = eq-eqb _ _ (ap (λ (z : Key). (bits_at old z.minor).class) is ∙ c) in
-      let u : eqb (bits_at new k.minor).class class ≡ true = eq-eqb _ _ (ap (λ (z : Key). (bits_at new z.minor).class) is ∙ d) in
-      let here : (slab_at old k).free ≡ a ∷ (slab_at new k).free = ap (λ (z : Key). (slab_at old z).free) is ∙ first ∙ ap (λ (z : Key). a ∷ (slab_at new z).free) (sym is) in
       let rest = map_same (slab_at old) (slab_at new) ks (λ l n.
-      let above : key_cmp k l ≡ Less = every_member _ ks s.0 l n in
-      let other : l ≢ key = (λ e. less_ne k l above (is ∙ sym e)) in
+      let other : l ≢ key = (λ e. less_ne k l (every_member _ ks s.0 l n) (is ∙ sym e)) in
       ap (λ (b : Bits). slab_of b l.major) (sym (stay l (contains_later k ks l n) other))) in
-      rw (t, u) (λ x. here x ++ free_of class (rest x))
+      grind (arith, nat_tests, is, c, d, first, ap (free_of class) rest)
   | inr n ↦
       let below : key_cmp k key ≡ Less = every_member _ ks s.0 key n in
-      let same = stay k (head k ks) (less_ne k key below) in
       let deep = taken_first old new class a key ks s.1 n (λ l o. before l (contains_later k ks l o)) (λ l o. stay l (contains_later k ks l o)) c d first in
-      grind (arith, nat_tests, before k (head k ks) below, same, deep)
+      grind (arith, nat_tests, before k (head k ks) below, stay k (head k ks) (less_ne k key below), deep)
 ]
 
 module _ (t : Table) (i : IsSlabTable t) (class : ℕ) (key : Key) (o : IsLowestOpen t class key) (n : ℕ) (found : position (λ b. b) (bits_at t.slots.items key.minor).free ≡ Some n) (low : n < regions_at (bits_at t.slots.items key.minor).class) where

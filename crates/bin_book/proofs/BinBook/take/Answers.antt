@@ -19,7 +19,7 @@ loop-turn-preserved c =
     let items = c.push.ensures.items ∙ ap (λ xs. xs ++ c.in-Some.addr ∷ []) i.items ∙ append_assoc c.args.out.now.items (take turn all) (c.in-Some.addr ∷ []) ∙ ap (λ xs. c.args.out.now.items ++ xs) (sym one) in
     let slabs = c.in-Some.ensures.slabs ∙ ap (map (with_regions_out (c.in-Some.addr ∷ []))) i.slabs ∙ sym (without_more (take turn all) c.in-Some.addr c.args.self.now.slabs) ∙ ap (λ xs. map (with_regions_out xs) c.args.self.now.slabs) (sym one) in
     let regions = c.in-Some.ensures.regions ∙ ap (λ client. inserted (region_of client c.args.class c.in-Some.addr) (regions_in c.loop-turn.self-inside.table)) i.client
-        ∙ ap (inserted (region_of c.args.self.now.client c.args.class c.in-Some.addr)) i.regions
-        ∙ landing_more (map (region_of c.args.self.now.client c.args.class) (take turn all)) _ c.args.self.now.regions
-        ∙ ap (λ rs. landing rs c.args.self.now.regions) (sym (ap (map (region_of c.args.self.now.client c.args.class)) one ∙ map-append (region_of c.args.self.now.client c.args.class) (take turn all) (c.in-Some.addr ∷ []))) in
+    ∙ ap (inserted (region_of c.args.self.now.client c.args.class c.in-Some.addr)) i.regions
+    ∙ landing_more (map (region_of c.args.self.now.client c.args.class) (take turn all)) _ c.args.self.now.regions
+    ∙ ap (λ rs. landing rs c.args.self.now.regions) (sym (ap (map (region_of c.args.self.now.client c.args.class)) one ∙ map-append (region_of c.args.self.now.client c.args.class) (take turn all) (c.in-Some.addr ∷ []))) in
     search (rules, arith, few, rest, items, slabs, regions)

@@ -1,5 +1,5 @@
-use Rattle.bin_book.proofs.Words.{◌+◌, sym, ◌∙◌}
-use Rattle.bin_book.proofs.Holding.{charted_found, charted_place, last_found, none_found}
+use Rattle.bin_book.proofs.Words.{sym, ◌∙◌}
+use Rattle.bin_book.proofs.Holding.{charted_found}
 use Rattle.bin_book.proofs.table.Table.last_at.Goals as goal
 
 pub returns-in-Some-clause-some : goal.returns-in-Some-clause-some

@@ -1,4 +1,4 @@
-use Rattle.bin_book.proofs.Taking.{found_open, none_open}
+use Rattle.bin_book.proofs.Taking.{found_open}
 use Rattle.bin_book.proofs.table.Table.open_slab.Goals as goal
 
 pub returns-clause-some : goal.returns-clause-some
