@@ -120,11 +120,9 @@ pub hand_over_is : (numbers : Numbers) (addr number : ℕ) (holder : Option ℕ)
     → larges_in (map.insert numbers (addr / 4096) (packed (held_by holder (region_at (addr / 4096) number)))) ≡ held_anew (starts_at addr) holder (larges_in numbers)
 hand_over_is numbers addr number holder stood has =
     let next = held_by holder (region_at (addr / 4096) number) in
-    let page = stood.page in
-    let low = stood.low in
     same_larges _ _ (rising_changed addr_of (held_by holder) (λ r. refl) (starts_at addr) (larges_in numbers) (larges_rise numbers)) (λ a.
-    found_put numbers addr (packed next) a page low
-    ∙ grind (arith, nat_tests, region_back next (addr / 4096) (omega arith) refl, larges_found numbers a, finds_changed addr_of (held_by holder) (λ r. refl) addr a (larges_in numbers)))
+    found_put numbers addr (packed next) a stood.page stood.low
+    ∙ grind (arith, nat_tests, stood.page, region_back next (addr / 4096) (omega arith) (omega (arith, stood.page)), larges_found numbers a, finds_changed addr_of (held_by holder) (λ r. refl) addr a (larges_in numbers)))
 
 pub replace_is : (numbers : Numbers) (r : Region) → r.class < 256 → Stands numbers r.addr
     → larges_in (map.insert numbers (r.addr / 4096) (packed r)) ≡ inserted r (filter (λ q. not (starts_at r.addr q)) (larges_in numbers))

@@ -85,11 +85,6 @@ unmarked numbers n k = rw (more_words [] n k) (behind [] numbers k (omega arith)
 count_more : (xs : Places) (n : ℕ) → count_by is_some (xs ++ replicate n None) ≡ count_by is_some xs
 count_more xs n = omega (arith, sum_by-append (λ o. cond (is_some o) 1 0) xs (replicate n None), sum_by-replicate (λ (o : Option ℕ). cond (is_some o) 1 0) n None)
 
--- an option without a value
-none_from : (o : Option ℕ) → is_some o ≡ false → o ≡ None
-none_from None e = refl
-none_from (Some x) e = absurd (cc)
-
 -- a table, and what it holds
 pub record IsTableOf (root : Places) (places : ℕ) (at : ℕ → Option ℕ) (spare : ℕ) (pages : Pages) : Type 0 where
   pub table : IsTable root places
@@ -122,9 +117,9 @@ module _ {root : Places} {places : ℕ} {at : ℕ → Option ℕ} {spare : ℕ} 
       → IsTableOf (put_at (root ++ replicate more None) chunk (Some (places / 512))) (places + 512) wide (spare - 1) (with_leaf pages chunk)
   given more chunk wide without within blank bare =
       let table = of.table in
-      let free = none_from (leaf_of root chunk) (sym (of.chunks chunk) ∙ without) in
+      let free : leaf_of root chunk ≡ None = grind (arith, of.chunks chunk, without) in
       let leaf = places / 512 in
-      let filled : leaf * 512 ≡ places = let f = table.filled in omega arith in
+      let filled : leaf * 512 ≡ places = omega (arith, table.filled) in
       let long : Places = root ++ replicate more None in
       let same = reads_more root more None in
       let inside : chunk < length long = omega (arith, length-append root (replicate more None), length-replicate {A = Option ℕ} more None) in
@@ -134,20 +129,8 @@ module _ {root : Places} {places : ℕ} {at : ℕ → Option ℕ} {spare : ℕ} 
       record {
         table = record {
           filled = grind (arith, sum_by-set (λ o. cond (is_some o) 1 0) long chunk (Some leaf) None, same chunk, table.filled, count_more root more);
-          taken = λ c l has. elim (cases_eq c chunk) [
-            | inl e ↦ let own : Some leaf ≡ Some l = sym here ∙ ap (leaf_of now) (sym e) ∙ has in let is : leaf ≡ l = cc in omega arith
-            | inr ne ↦ let le = table.taken c l (sym (other c ne) ∙ has) in omega arith
-          ];
-          apart = λ c o l has also. elim (cases_eq c chunk) [
-            | inl e ↦ elim (cases_eq o chunk) [
-              | inl f ↦ e ∙ sym f
-              | inr nf ↦ absurd (let own : Some leaf ≡ Some l = sym here ∙ ap (leaf_of now) (sym e) ∙ has in let is : leaf ≡ l = cc in let le = table.taken o l (sym (other o nf) ∙ also) in omega arith)
-            ]
-            | inr ne ↦ elim (cases_eq o chunk) [
-              | inl f ↦ absurd (let own : Some leaf ≡ Some l = sym here ∙ ap (leaf_of now) (sym f) ∙ also in let is : leaf ≡ l = cc in let le = table.taken c l (sym (other c ne) ∙ has) in omega arith)
-              | inr nf ↦ table.apart c o l (sym (other c ne) ∙ has) (sym (other o nf) ∙ also)
-            ]
-          ];
+          taken = λ c l has. grind (arith, cases_eq c chunk, here, other c, has, table.taken c l);
+          apart = λ c o l has also. grind (arith, cases_eq c chunk, cases_eq o chunk, here, other c, other o, has, also, table.taken c l, table.taken o l, table.apart c o l);
         };
         numbers = λ q. of.numbers q ∙ elim (cases_eq (q / 512) chunk) [
           | inl e ↦
@@ -156,10 +139,7 @@ module _ {root : Places} {places : ℕ} {at : ℕ → Option ℕ} {spare : ℕ} 
               none ∙ sym (some ∙ blank (leaf * 512 + q % 512) ∙ bare (leaf * 512 + q % 512) (omega arith))
           | inr ne ↦ sym (ap (option_and_then (λ l. wide (l * 512 + q % 512))) (other (q / 512) ne) ∙ ap (λ f. number_of root f q) (λ i k. blank k i))
         ];
-        chunks = λ q. elim (cases_eq q chunk) [
-          | inl e ↦ rw (e, here) (grind (arith, set.members, nat_tests, unsigned_tied chunk chunk))
-          | inr ne ↦ rw (other q ne) (grind (arith, set.members, nat_tests, unsigned_tied q chunk, of.chunks q))
-        ];
+        chunks = λ q. grind (arith, cases_eq q chunk, here, other q, set.members, nat_tests, unsigned_tied q chunk, of.chunks q);
         left = ap (λ n. n - 1) of.left;
       }
 
