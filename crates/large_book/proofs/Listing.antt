@@ -134,8 +134,4 @@ take_is numbers addr there =
     found_cleared numbers addr a (stands numbers addr there).page ∙ ap (cond (eqb addr a) None) (sym (larges_found numbers a)) ∙ sym (finds_without addr_of addr a (larges_in numbers)))
 
 pub none_listed : larges_in map.empty ≡ []
-none_listed = same_larges _ _ tt (λ a. rw (map.get-empty nat_cmp (a / 4096)) (none (is_among a 0 536870912)))
-  where
-    none : (b : Bool) → ◌≡◌ {A = Option Region} (cond b None None) None
-    none true = refl
-    none false = refl
+none_listed = same_larges _ _ tt (λ a. grind (arith, map.get-empty {X = ℕ} nat_cmp (a / 4096)))

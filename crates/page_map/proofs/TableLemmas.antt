@@ -156,14 +156,10 @@ module _ {root : Places} {places : ℕ} {at : ℕ → Option ℕ} {spare : ℕ} 
   pub emptied : (bare : ℕ → Option ℕ) → ((k : ℕ) → bare k ≡ None) → IsTableOf root places bare spare (record pages { numbers = map.empty })
   emptied bare blank = record {
     table = of.table;
-    numbers = λ q. map.get-empty nat_cmp q ∙ sym (reads (leaf_of root (q / 512)) (q % 512));
+    numbers = λ q. grind (arith, map.get-empty {X = ℕ} nat_cmp q, blank);
     chunks = of.chunks;
     left = of.left;
   }
-    where
-      reads : (o : Option ℕ) (p : ℕ) → option_and_then (λ l. bare (l * 512 + p)) o ≡ None
-      reads None p = refl
-      reads (Some l) p = blank (l * 512 + p)
 
   -- a page whose chunk has a leaf gets a number, or none
   pub written : (leaf page : ℕ) (number : Option ℕ) (now : ℕ → Option ℕ) → leaf_of root (page / 512) ≡ Some leaf
