@@ -1,5 +1,5 @@
 -- The regions at all pages, and what each change of a page's number makes of them.
-use Rattle.std.proofs.Common.{◌≡◌, ℕ, zero, suc, ◌+◌, ◌*◌, ◌/◌, ◌%◌, ◌<◌, true, false, ◌&&◌, not, cond, List, [], filter, find, Option, None, Some, is_some, refl, sym, ◌∙◌, ap, arith, Bool, eqb, leb, ltb}
+use Rattle.std.proofs.Common.{◌≡◌, ℕ, zero, suc, ◌+◌, ◌*◌, ◌/◌, ◌%◌, ◌<◌, true, ◌&&◌, not, cond, List, [], filter, find, Option, None, Some, is_some, refl, sym, ◌∙◌, ap, arith, Bool, eqb, leb, ltb}
 use Rattle.std.specs.List.{cons_option}
 use Rattle.std.specs.Option.{option_map}
 use Rattle.std.specs.Cmp.{unsigned_tied}
