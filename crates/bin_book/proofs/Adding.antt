@@ -249,7 +249,7 @@ module _ (t : Table) (i : IsSlabTable t) (slab : Key) (there : Contains t.firsts
     firsts = λ k m. ap (λ v. get_or v.items k.minor 0) firsts ∙ i.charted.firsts k (without_from t.firsts.keys slab k m).0;
     holders = λ page n e.
         let h = i.charted.holders page n (only page n e) in
-        let gone : h.0 ≢ slab = (λ same. let no : None ≡ Some n = sym (none page (subst (λ (z : Key). HasPage z.major (pages_at (bits_at t.slots.items z.minor).class) page) same h.1.has)) ∙ e in cc) in
+        let gone : h.0 ≢ slab = (λ same. let far = none page (subst (λ (z : Key). HasPage z.major (pages_at (bits_at t.slots.items z.minor).class) page) same h.1.has) in cc) in
         (h.0, record { there = without_keeps t.firsts.keys slab h.0 h.1.there gone; at = h.1.at; has = h.1.has });
   }
 
@@ -294,10 +294,6 @@ module _ (t : Table) (i : IsSlabTable t) (slab : Key) (there : Contains t.firsts
   slabs_less u firsts slots = let items = ap (λ v. v.items) slots in rw (items, firsts) refl
 
 -- ---- all slabs go
-
-pub no_slabs : (t : Table) → IsSlabTable t → t.firsts.keys ≡ [] → slabs_in t ≡ []
-unfolding slabs_in
-no_slabs t i e = ap (map (slab_at t.slots.items)) e
 
 pub length_slabs : (t : Table) → length (slabs_in t) ≡ length t.firsts.keys
 unfolding slabs_in

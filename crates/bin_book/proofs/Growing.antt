@@ -83,15 +83,13 @@ module _ (t u : Table) (i : IsSlabTable t) (firsts : u.firsts.keys ≡ t.firsts.
 -- a table whose sets and chart have more room, and that is as it was otherwise
 pub table_roomy : (t u : Table) → IsSlabTable t → u.firsts.keys ≡ t.firsts.keys → t.firsts.spare ≤ u.firsts.spare → u.bins.keys ≡ t.bins.keys → t.bins.spare ≤ u.bins.spare → u.slots ≡ t.slots → u.free ≡ t.free → u.counts ≡ t.counts → length t.holders ≤ length u.holders → Grows t.chart u.chart → IsSlabTable u × (slabs_in u ≡ slabs_in t)
 table_roomy t u i firsts more bins wider slots free counts codes chart =
-    let items = ap (λ v. v.items) slots in
     let len = ap (λ v. vec_len v) slots in
-    let free_items = ap (λ v. v.items) free in
     let free_len = ap (λ v. vec_len v) free in
     let cap = ap (λ v. vec_capacity v) free in
-    let agree = (λ (n : ℕ) (l : n < vec_len t.slots). ap (λ xs. bits_at xs n) items) in
+    let agree = (λ (n : ℕ) (l : n < vec_len t.slots). ap (λ v. bits_at v.items n) slots) in
     let places = chart.places in
     let none : vec_len u.slots - vec_len t.slots ≡ 0 = omega arith in (
-      table_grown t u i firsts bins counts agree chart (omega arith) (free_items ∙ sym (append-nil t.free.items) ∙ ap (λ n. t.free.items ++ range_with_len (vec_len t.slots) n) (sym none)) (omega arith) (omega arith) (omega arith) (omega arith) (omega arith) (omega arith) (omega arith),
+      table_grown t u i firsts bins counts agree chart (omega arith) (ap (λ v. v.items) free ∙ rw none (sym (append-nil t.free.items))) (omega arith) (omega arith) (omega arith) (omega arith) (omega arith) (omega arith) (omega arith),
       slabs_grown t u i firsts bins counts agree chart,
     )
 

@@ -23,8 +23,8 @@ module _ (slots : List Bits) (codes : List ℕ) where
   out_has (k ∷ ks) r key n o = elim (contains_cases k ks key o.there) [
     | inl e ↦
         let b = bits_at slots key.minor in
-        let m = map_has (slab_region slots codes key) (zeros (regions_at b.class) b.free) n (filter_has (λ i. not (get_or b.free i false)) (range_with_len 0 (regions_at b.class)) n (range_has 0 (regions_at b.class) n (omega arith) (let low = o.low in omega arith)) (ap not o.out)) in
-        Contains-append_left (out_of slots codes k) (flat_map (out_of slots codes) ks) r (subst (λ x. Contains (out_of slots codes k) x) o.is (subst (λ z. Contains (out_of slots codes z) (slab_region slots codes key n)) (sym e) m))
+        let m = map_has (slab_region slots codes key) (zeros (regions_at b.class) b.free) n (filter_has (λ i. not (get_or b.free i false)) (range_with_len 0 (regions_at b.class)) n (range_has 0 (regions_at b.class) n (omega arith) (omega (arith, o.low))) (ap not o.out)) in
+        Contains-append_left (out_of slots codes k) (flat_map (out_of slots codes) ks) r (rw e (subst (Contains (out_of slots codes key)) o.is m))
     | inr d ↦ Contains-append_right (out_of slots codes k) (flat_map (out_of slots codes) ks) r (out_has ks r key n (record { there = d; low = o.low; out = o.out; is = o.is }))
   ]
 

@@ -4,17 +4,10 @@ use Rattle.bin_book.proofs.table.Table.out_at.Goals.{else-has_out-via-then-has_o
 use Rattle.bin_book.proofs.table.Table.out_at.Goals as goal
 
 pub overflow_mul-offset : goal.overflow_mul-offset
-overflow_mul-offset c =
-    let last = c.requires.last in
-    let below = last.below in
-    let fits = c.ranges.addr.fits in
-    record { fits = omega arith }
+overflow_mul-offset c = record { fits = omega (arith, c.requires.last.below, c.ranges.addr.fits) }
 
 pub overflow_sub-offset : goal.overflow_sub-offset
-overflow_sub-offset c =
-    let last = c.requires.last in
-    let below = last.below in
-    omega arith
+overflow_sub-offset c = omega (arith, c.requires.last.below)
 
 -- what is out there
 out : (c : goal.Then-offset-size-eq0) → HasOut (bits_at c.args.self.now.slots.items c.args.slab.minor) c.args.class ((c.args.addr - 4096 * c.args.slab.major) / c.size_of-size.result)
