@@ -1,14 +1,22 @@
 -- A slab comes, or goes.
-use Rattle.bin_book.proofs.Words.{Some, None, ◌≡◌, ◌≢◌, ℕ, ◌+◌, ◌-◌, ◌*◌, ◌^◌, ◌<◌, ◌≤◌, Bool, false, eqb, ltb, List, [], ◌∷◌, ◌++◌, length, length-set, map, filter, find, get_or, set, count_by, ◌⊎◌, inl, inr, refl, sym, ap, ◌∙◌, subst, arith, Contains, vec_len, vec_capacity, zero, slice_get, list_any, range_with_len, cases_eq, cases_lt, eq-eqb, get_or-set_at, nat_tests, get_or-set_other, get_or-set_same, length-map, map-append, Contains-append_left, Contains-push, Contains-push_cases, length-range_with_len, count_by-le-length, sum_by-append, sum_by-cons, pages_at, regions_at, size_at, pages_bounds, size_bounds, slab_filled, Region, landing, region_of, regions_from, starts_at, AreFreeFrom, Bits, Key, IsAscending, is_above, is_below, is_from, key_cmp, with_key, without_key, length_with, length_without, key_tie, key_total, every_from, filter_from, with_from, with_keeps, with_self, without_from, without_keeps, absent, others_is, parts, present, Chart, Table, addr_of, meets_slab, place, slab_with_out, with_slab, HasPage, holder_at, AreCounts, AreFreeSlots, IsBinned, IsCharted, AreSlabKeys, IsSlabIn, IsSlabTable, bin_key, bin_of, bits_at, left_of, ones, slab_region, regions_in, out_of_slabs, slab_at, slab_of, slabs_in, slabs_without, count_none, any_false, bit, count_map, count_same, count_some, filter_map_is, filter_same, map_from, map_has, map_same, range_from, range_has, AreNew, not_found, same_members, get_or_from_slice_get, slice_get_within}
-use Rattle.bin_book.proofs.Places.{length_ones, place_inside, run_ones, bits_here, bits_there, same_slab}
+use Rattle.bin_book.proofs.Words.{is_eq, tied_itself, Some, None, ◌≡◌, ◌≢◌, ℕ, ◌+◌, ◌-◌, ◌*◌, ◌^◌, ◌<◌, ◌≤◌, Bool, false, eqb, ltb, List, [], ◌∷◌, ◌++◌, length, length-set, map, filter, get_or, set, count_by, ◌⊎◌, inl, inr, refl, sym, ap, ◌∙◌, subst, arith, Contains, vec_len, vec_capacity, zero, slice_get, list_any, range_with_len, cases_eq, cases_lt, eq-eqb, get_or-set_at, nat_tests, get_or-set_other, get_or-set_same, length-map, map-append, Contains-append_left, Contains-push, Contains-push_cases, length-range_with_len, count_by-le-length, sum_by-append, sum_by-cons, pages_at, regions_at, pages_bounds, slab_filled, Region, landing, regions_from, AreFreeFrom, Bits, Key, IsAscending, is_above, is_below, key_cmp, with_key, without_key, length_with, length_without, key_tie, key_total, filter_from, with_from, with_keeps, with_self, without_from, without_keeps, absent, parts, Chart, Table, addr_of, meets_slab, place, slab_with_out, with_slab, HasPage, holder_at, AreCounts, AreFreeSlots, IsBinned, IsCharted, AreSlabKeys, IsSlabIn, IsSlabTable, bin_key, bin_of, bits_at, left_of, ones, regions_in, out_of_slabs, slab_at, slab_of, slabs_in, slabs_without, count_none, any_false, bit, count_map, count_same, count_some, filter_map_is, filter_same, map_has, map_same, range_from, get_or_from_slice_get, slice_get_within, append-nil, filter_all_of, not, out_of, zeros, IsRising}
+use Rattle.bin_book.proofs.Places.{filter_split, length_ones, bits_here, bits_there, same_slab}
 use Rattle.bin_book.proofs.Taking.{small_numbers}
-use Rattle.bin_book.proofs.Regions.{out_from, out_has, regions_agree, regions_rise, from_rises, landed, landed_from, landed_new, landed_old}
+use Rattle.bin_book.proofs.Regions.{landing_between, regions_agree, regions_both, regions_first, regions_rise}
+use Rattle.std.proofs.Common.{rules}
+use Rattle.list_facts.proofs.Members.{count_less_one, filter_none_of, kept_length}
 use Rattle.std.specs.FinMap as map_of
 
 -- ---- a new slab
 
 pub new_ones : (bits : Bits) (out : ℕ) → out ≤ regions_at bits.class → AreFreeFrom out bits → ones (regions_at bits.class) bits.free ≡ range_with_len out (regions_at bits.class - out)
-new_ones bits out most run = run_ones bits.free 0 (regions_at bits.class) out (omega arith) (omega arith) (λ i low lt. run i ∙ grind (arith, nat_tests)) (λ i ge lt. run i ∙ grind (arith, nat_tests)) ∙ ap (range_with_len out) (omega arith)
+new_ones bits out most run = filter_split (λ i. get_or bits.free i false) out (regions_at bits.class) most
+    ∙ (λ x. filter_none_of (λ i. get_or bits.free i false) (range_with_len 0 out) (λ i m. run i ∙ grind (arith, nat_tests, range_from 0 out i m)) x ++ filter_all_of (λ i. get_or bits.free i false) (range_with_len out (regions_at bits.class - out)) (λ i m. run i ∙ grind (arith, nat_tests, range_from out (regions_at bits.class - out) i m)) x)
+
+new_zeros : (bits : Bits) (out : ℕ) → out ≤ regions_at bits.class → AreFreeFrom out bits → zeros (regions_at bits.class) bits.free ≡ range_with_len 0 out
+new_zeros bits out most run = filter_split (λ i. not (get_or bits.free i false)) out (regions_at bits.class) most
+    ∙ (λ x. filter_all_of (λ i. not (get_or bits.free i false)) (range_with_len 0 out) (λ i m. ap not (run i) ∙ grind (arith, nat_tests, range_from 0 out i m)) x ++ filter_none_of (λ i. not (get_or bits.free i false)) (range_with_len out (regions_at bits.class - out)) (λ i m. ap not (run i) ∙ grind (arith, nat_tests, range_from out (regions_at bits.class - out) i m)) x)
+    ∙ append-nil (range_with_len 0 out)
 
 pub new_slab : (bits : Bits) (first out : ℕ) → out ≤ regions_at bits.class → AreFreeFrom out bits → slab_of bits first ≡ slab_with_out bits.class first out
 new_slab bits first out most run = λ k. record { class = bits.class; first = first; free = map (place bits.class first) (new_ones bits out most run k) }
@@ -16,33 +24,16 @@ new_slab bits first out most run = λ k. record { class = bits.class; first = fi
 pub new_in : (bits : Bits) (first out : ℕ) → bits.class < 36 → 0 < out → out ≤ regions_at bits.class → length bits.free ≡ 512 → AreFreeFrom out bits → first + pages_at bits.class ≤ 2 ^ 32 → IsSlabIn bits first
 new_in bits first out small some most long run inside =
     let behind : (i : ℕ) → regions_at bits.class ≤ i → get_or bits.free i false ≡ false = (λ i far. run i ∙ grind (arith, nat_tests)) in
-    record {
-      small = small;
-      long = long;
-      behind = behind;
-      some_out = (let left = sym (length_ones bits.free (regions_at bits.class) behind) ∙ ap length (new_ones bits out most run) ∙ length-range_with_len out (regions_at bits.class - out) in omega arith);
-      inside = inside;
-    }
+    let left = sym (length_ones bits.free (regions_at bits.class) behind) ∙ ap length (new_ones bits out most run) ∙ length-range_with_len out (regions_at bits.class - out) in
+    search (rules, arith, behind)
 
 -- ---- counts over keys
 
 pub count_with : (p : Key → Bool) (ks : List Key) (key : Key) → IsAscending ks → (Contains ks key → ⊥) → count_by p (with_key ks key) ≡ count_by p ks + bit (p key)
-count_with p ks key s none =
-    let f = λ (k : Key). bit (p k) in
-    let whole = ap (count_by p) (parts key_cmp key_total key ks s) ∙ sum_by-append f (filter (is_below key) ks) (filter (is_from key) ks) in
-    let same = ap (count_by p) (absent key_cmp key_total key key_tie ks none) in
-    let n = sum_by-append f (filter (is_below key) ks) (key ∷ filter (is_above key) ks) in
-    let one = sum_by-cons f key (filter (is_above key) ks) in
-    omega arith
+count_with p ks key s none = omega (arith, ap (count_by p) (parts key_cmp key_total key ks s ∙ ap (λ ls. filter (is_below key) ks ++ ls) (absent key_cmp key_total key key_tie ks none)), sum_by-append (λ k. bit (p k)) (filter (is_below key) ks), sum_by-cons (λ k. bit (p k)) key (filter (is_above key) ks))
 
 pub count_without : (p : Key → Bool) (ks : List Key) (key : Key) → IsAscending ks → Contains ks key → count_by p (without_key ks key) + bit (p key) ≡ count_by p ks
-count_without p ks key s m =
-    let f = λ (k : Key). bit (p k) in
-    let whole = ap (count_by p) (parts key_cmp key_total key ks s) ∙ sum_by-append f (filter (is_below key) ks) (filter (is_from key) ks) in
-    let same = ap (count_by p) (present key_cmp key_total key key_tie ks s m) in
-    let n = ap (count_by p) (others_is key_cmp key_total key ks s) ∙ sum_by-append f (filter (is_below key) ks) (filter (is_above key) ks) in
-    let one = sum_by-cons f key (filter (is_above key) ks) in
-    omega arith
+count_without p ks key s m = count_less_one (λ k. is_eq (key_cmp k key)) p ks key m (ap is_eq (tied_itself key_total key)) (omega (arith, kept_length (λ k. is_eq (key_cmp k key)) ks, length_without ks key s m))
 
 -- a key by the first pages, where these differ
 below_first : (key k : Key) → k.major ≢ key.major → is_below key k ≡ ltb k.major key.major
@@ -76,10 +67,10 @@ module _ (t : Table) (i : IsSlabTable t) (class first number : ℕ) (bits : Bits
   was_free = subst (λ ns. Contains ns number) (sym free) (Contains-push rest number)
 
   pub in_items : number < length t.slots.items
-  in_items = let l = i.free.in_slots number was_free in let same = t.slots.ok.0 in omega arith
+  in_items = omega (arith, i.free.in_slots number was_free, t.slots.ok.0)
 
   pub low_number : number < 2 ^ 32
-  low_number = let l = i.free.in_slots number was_free in let small = i.small in omega arith
+  low_number = omega (arith, i.free.in_slots number was_free, i.small)
 
   pub other_number : (k : Key) → Contains t.firsts.keys k → k.minor ≢ number
   other_number k m = i.free.unused number k was_free m
@@ -90,16 +81,12 @@ module _ (t : Table) (i : IsSlabTable t) (class first number : ℕ) (bits : Bits
   pub new_bin : (full : Bool) → Contains t.bins.keys (bin_key class full slab) → ⊥
   new_bin full m =
       let p = i.binned.from _ m in
-      let e : p.0 ≡ slab = same_slab _ _ _ _ p.0 slab (small_numbers t i p.0 p.1) low_number p.2 in
-      other_number p.0 p.1 (ap (λ (z : Key). z.minor) e)
+      other_number p.0 p.1 (ap (λ (z : Key). z.minor) (same_slab _ _ _ _ p.0 slab (small_numbers t i p.0 p.1) low_number p.2))
 
   -- no page is in another slab
-  meets_not : (k : Key) → Contains t.firsts.keys k → meets_slab class first (slab_at t.slots.items k) ≡ false
-  unfolding slabs_in
-  meets_not k m = any_false (meets_slab class first) (map (slab_at t.slots.items) t.firsts.keys) (slab_at t.slots.items k) apart (map_has (slab_at t.slots.items) t.firsts.keys k m)
-
   beside : (k : Key) → Contains t.firsts.keys k → (first + pages_at class ≤ k.major) ⊎ (k.major + pages_at (bits_at t.slots.items k.minor).class ≤ first)
-  beside k m = grind (arith, nat_tests, meets_not k m)
+  unfolding slabs_in
+  beside k m = grind (arith, nat_tests, any_false (meets_slab class first) (map (slab_at t.slots.items) t.firsts.keys) (slab_at t.slots.items k) apart (map_has (slab_at t.slots.items) t.firsts.keys k m))
 
   some_pages : 1 ≤ pages_at class
   some_pages = (pages_bounds class (let s = new.small in omega arith)).0
@@ -108,7 +95,7 @@ module _ (t : Table) (i : IsSlabTable t) (class first number : ℕ) (bits : Bits
   pages_of k m = (pages_bounds _ (let s = (i.kept.slab k m).small in omega arith)).0
 
   other_first : (k : Key) → Contains t.firsts.keys k → k.major ≢ first
-  other_first k m e = let one = some_pages in let two = pages_of k m in elim (beside k m) [ inl l ↦ omega arith | inr l ↦ omega arith ]
+  other_first k m e = grind (arith, beside k m, some_pages, pages_of k m, e)
 
   -- what is known of the new bits and of the old ones
   by_new : (P : Key → Bits → Type 0) → P slab bits → ((k : Key) → Contains t.firsts.keys k → P k (bits_at t.slots.items k.minor)) → (k : Key) → Contains keys k → P k (bits_at slots k.minor)
@@ -119,7 +106,7 @@ module _ (t : Table) (i : IsSlabTable t) (class first number : ℕ) (bits : Bits
 
   pub kept_added : AreSlabKeys slots keys
   kept_added = record {
-    slab = by_new (λ k b. IsSlabIn b k.major) new (λ k m. i.kept.slab k m);
+    slab = by_new (λ k b. IsSlabIn b k.major) new i.kept.slab;
     apart = λ k l m n. by_new (λ k b. k.major ≤ l.major → (k ≡ l) ⊎ (k.major + pages_at b.class ≤ l.major))
         (λ le. grind (arith, with_from t.firsts.keys slab l n, beside l, pages_of l, is, le))
         (λ k d le. grind (arith, with_from t.firsts.keys slab l n, beside k d, some_pages, i.kept.apart k l d, le)) k m;
@@ -138,30 +125,22 @@ module _ (t : Table) (i : IsSlabTable t) (class first number : ℕ) (bits : Bits
       }
 
   pub chart_place : number < vec_len t.chart.firsts
-  chart_place = let low = i.free.in_slots number was_free in let room = i.chart_room in omega arith
+  chart_place = omega (arith, i.free.in_slots number was_free, i.chart_room)
 
   -- its first page stands at its number, and its pages have no other number
   pub charted_added : (chart : Chart) → chart.firsts.items ≡ set t.chart.firsts.items number first → ((page n : ℕ) → map_of.get chart.pages.numbers page ≡ Some n → (HasPage first (pages_at class) page × (number ≡ n)) ⊎ (map_of.get t.chart.pages.numbers page ≡ Some n)) → IsCharted slots keys chart
   charted_added chart firsts only = record {
-    firsts = λ k m. ap (λ ns. get_or ns k.minor 0) firsts ∙ elim (with_from t.firsts.keys slab k m) [
-      | inl e ↦ subst (λ (z : Key). get_or (set t.chart.firsts.items number first) z.minor 0 ≡ z.major) (sym e) (get_or-set_same t.chart.firsts.items number first 0 (let low = chart_place in let same = t.chart.firsts.ok.0 in omega arith))
-      | inr d ↦ get_or-set_other t.chart.firsts.items number k.minor first 0 (other_number k d) ∙ i.charted.firsts k d
-    ];
+    firsts = λ k m. grind (arith, ap (λ ns. get_or ns k.minor 0) firsts, with_from t.firsts.keys slab k m, get_or-set_same t.chart.firsts.items number first 0 (omega (arith, chart_place, t.chart.firsts.ok.0)), get_or-set_other t.chart.firsts.items number k.minor first 0, other_number k, i.charted.firsts k);
     holders = λ page n e. elim (only page n e) [
       | inl p ↦ (slab, record { there = with_self t.firsts.keys slab; at = p.1; has = subst (λ c. HasPage first (pages_at c) page) (sym (ap (λ (b : Bits). b.class) (bits_here t.slots.items number number bits in_items refl) ∙ is)) p.0 })
       | inr old ↦
           let h = i.charted.holders page n old in
-          let there = h.1.there in
-          (h.0, record { there = with_keeps t.firsts.keys slab h.0 there; at = h.1.at; has = subst (λ (b : Bits). HasPage h.0.major (pages_at b.class) page) (sym (bits_there t.slots.items number h.0.minor bits (other_number h.0 there))) h.1.has })
+          (h.0, record { there = with_keeps t.firsts.keys slab h.0 h.1.there; at = h.1.at; has = subst (λ (b : Bits). HasPage h.0.major (pages_at b.class) page) (sym (bits_there t.slots.items number h.0.minor bits (other_number h.0 h.1.there))) h.1.has })
     ];
   }
 
   count_rest : (n : ℕ) → count_by (λ m. eqb m n) rest + bit (eqb number n) ≤ 1
-  count_rest n =
-      let whole = ap (count_by (λ m. eqb m n)) free ∙ sum_by-append (λ m. bit (eqb m n)) rest (number ∷ []) in
-      let one = sum_by-cons (λ m. bit (eqb m n)) number [] in
-      let once = i.free.once n in
-      omega arith
+  count_rest n = grind (arith, ap (count_by (λ m. eqb m n)) free, sum_by-append (λ m. bit (eqb m n)) rest (number ∷ []), sum_by-cons (λ m. bit (eqb m n)) number [], i.free.once n)
 
   free_added : AreFreeSlots rest keys (vec_len t.slots)
   free_added = record {
@@ -171,42 +150,28 @@ module _ (t : Table) (i : IsSlabTable t) (class first number : ℕ) (bits : Bits
   }
 
   class_count : (c : ℕ) → count_by (λ s. eqb s.class c) (map (slab_at slots) keys) ≡ count_by (λ s. eqb s.class c) (map (slab_at t.slots.items) t.firsts.keys) + bit (eqb class c)
-  class_count c =
-      let p = λ (k : Key). eqb (bits_at slots k.minor).class c in
-      let all = count_map (slab_at slots) (λ s. eqb s.class c) keys ∙ count_with p t.firsts.keys slab i.ascending new_key in
-      let old = count_same p (λ k. eqb (bits_at t.slots.items k.minor).class c) t.firsts.keys (λ k m. ap (λ (b : Bits). eqb b.class c) (bits_there t.slots.items number k.minor bits (other_number k m))) ∙ sym (count_map (slab_at t.slots.items) (λ s. eqb s.class c) t.firsts.keys) in
-      let here : bit (p slab) ≡ bit (eqb class c) = ap (λ (b : Bits). bit (eqb b.class c)) (bits_here t.slots.items number number bits in_items refl) ∙ ap (λ d. bit (eqb d c)) is in
-      omega arith
+  class_count c = grind (
+    arith,
+    count_map (slab_at slots) (λ s. eqb s.class c) keys,
+    count_with (λ k. eqb (bits_at slots k.minor).class c) t.firsts.keys slab i.ascending new_key,
+    count_map (slab_at t.slots.items) (λ s. eqb s.class c) t.firsts.keys,
+    is,
+    bits_here t.slots.items number number bits in_items,
+    count_same (λ k. eqb (bits_at slots k.minor).class c) (λ k. eqb (bits_at t.slots.items k.minor).class c) t.firsts.keys (λ k m. ap (λ (b : Bits). eqb b.class c) (bits_there t.slots.items number k.minor bits (other_number k m))),
+  )
 
   counts_added : (small : class < 36) → AreCounts (set t.counts class (get_or t.counts class 0 + 1)) (map (slab_at slots) keys)
   unfolding slabs_in
-  counts_added small c low =
-      let was = i.counts c low in
-      let all = class_count c in
-      omega (arith, counted_more t.counts class c (omega arith))
+  counts_added small c low = omega (arith, i.counts c low, class_count c, counted_more t.counts class c (omega arith))
 
   pub table_added : (small : class < 36) → (u : Table) → u.firsts.keys ≡ keys → u.firsts.spare + 1 ≡ t.firsts.spare → IsAscending u.firsts.keys → u.slots.items ≡ slots → vec_len u.slots ≡ vec_len t.slots → u.free.items ≡ rest → vec_len u.free + 1 ≡ vec_len t.free → vec_capacity u.free ≡ vec_capacity t.free
       → u.counts ≡ set t.counts class (get_or t.counts class 0 + 1) → IsCharted slots keys u.chart → vec_len u.chart.firsts ≡ vec_len t.chart.firsts → u.bins.keys ≡ with_key t.bins.keys (bin_key bits.class (eqb (left_of bits) 0) slab) → u.bins.spare + 1 ≡ t.bins.spare → length u.holders ≡ length t.holders → IsSlabTable u
   unfolding slabs_in
   table_added small u firsts spare ascending items len free_items free_len cap counts charted chart_len bins bins_spare codes =
       let more = ap length firsts ∙ length_with t.firsts.keys slab i.ascending new_key in
-      record {
-        ascending = ascending;
-        kept = rw (items, firsts) kept_added;
-        binned = rw (items, firsts) (binned_added u.bins.keys bins);
-        charted = rw (items, firsts) charted;
-        in_slots = λ k m. grind (arith, with_from t.firsts.keys slab k (subst (λ ks. Contains ks k) firsts m), i.free.in_slots number was_free, i.in_slots k, len);
-        free = rw (free_items, firsts, len) free_added;
-        classes = ap length counts ∙ length-set t.counts class (get_or t.counts class 0 + 1) ∙ i.classes;
-        counts = rw (counts, items, firsts) (counts_added small);
-        places = omega arith;
-        held = rw (len, codes) i.held;
-        small = omega arith;
-        room = omega arith;
-        chart_room = omega arith;
-        firsts_room = omega arith;
-        bins_room = omega arith;
-      }
+      let classes = ap length counts ∙ length-set t.counts class (get_or t.counts class 0 + 1) ∙ i.classes in
+      let in_slots : (k : Key) → Contains u.firsts.keys k → k.minor < vec_len u.slots = λ k m. grind (arith, with_from t.firsts.keys slab k (subst (λ ks. Contains ks k) firsts m), i.free.in_slots number was_free, i.in_slots k, len) in
+      search (rules, arith, items, firsts, free_items, len, counts, codes, ascending, kept_added, binned_added u.bins.keys bins, charted, free_added, counts_added small, i.held)
 
   pub slabs_added : (u : Table) → u.firsts.keys ≡ keys → u.slots.items ≡ slots → slabs_in u ≡ with_slab (slabs_in t) (slab_of bits first)
   unfolding slabs_in
@@ -221,81 +186,35 @@ module _ (t : Table) (i : IsSlabTable t) (class first number : ℕ) (bits : Bits
 
   -- the slot has codes
   pub codes_room : (count : ℕ) → count ≤ regions_at class → 512 * number + count ≤ length t.holders
-  codes_room count most =
-      let few = (slab_filled bits.class new.small).2 in
-      let same = ap regions_at is in
-      let low = i.free.in_slots number was_free in
-      omega arith
+  codes_room count most = omega (arith, (slab_filled bits.class new.small).2, ap regions_at is, i.free.in_slots number was_free)
 
   -- the regions of the slab land among the others
   pub regions_added : (client count : ℕ) → count ≤ regions_at class → AreFreeFrom count bits → IsAscending keys → (codes : List ℕ) → ((n : ℕ) → n < count → holder_at codes (512 * number + n) ≡ Some client)
       → ((p : ℕ) → (p < 512 * number) ⊎ (512 * number + count ≤ p) → holder_at codes p ≡ holder_at t.holders p) → out_of_slabs slots codes keys ≡ landing (regions_from client class (4096 * first) count) (regions_in t)
   regions_added client count most run ascending codes here others =
-      let small : class < 36 = subst (λ n. n < 36) is new.small in
-      let size = (size_bounds class (omega arith)).0 in
-      let old = t.slots.items in
-      let was = t.holders in
-      let made = λ (n : ℕ). region_of client class (4096 * first + n * size_at class) in
       let come = regions_from client class (4096 * first) count in
-      let coming = from_rises client class (4096 * first) 0 count (omega arith) in
-      let rising = regions_rise old was t.firsts.keys i.ascending i.kept in
-      let mine = bits_here t.slots.items number number bits in_items refl in
-      let class' = ap (λ (b : Bits). b.class) mine ∙ is in
-      let region : (n : ℕ) → n < count → slab_region slots codes slab n ≡ made n = (λ n l x. record { addr = place (class' x) first n; class = class' x; holder = here n l x }) in
-      let theirs : out_of_slabs slots codes t.firsts.keys ≡ regions_in t = regions_agree old slots was codes t.firsts.keys (λ k m. bits_there t.slots.items number k.minor bits (other_number k m)) (λ k n m low.
-      let few = (slab_filled (bits_at old k.minor).class (i.kept.slab k m).small).2 in
-      let few' = (slab_filled class small).2 in
-      let other = other_number k m in
+      let were = out_of_slabs t.slots.items t.holders in
+      let lower = filter (is_below slab) t.firsts.keys in
+      let higher = filter (is_above slab) t.firsts.keys in
+      let made : Bits → ℕ → Region = λ b n. record { addr = place b.class first n; class = b.class; holder = holder_at codes (512 * number + n) } in
+      let mine : out_of slots codes slab ≡ come = ap (λ (b : Bits). map (made b) (zeros (regions_at b.class) b.free)) (bits_here t.slots.items number number bits in_items refl)
+      ∙ ap (map (made bits)) (new_zeros bits count (subst (λ c. count ≤ regions_at c) (sym is) most) run)
+      ∙ map_same (made bits) _ (range_with_len 0 count) (λ n m x. record { addr = place (is x) first n; class = is x; holder = here n (omega (arith, (range_from 0 count n m).1)) x }) in
+      let theirs = λ (p : Key → Bool). regions_agree t.slots.items slots t.holders codes (filter p t.firsts.keys) (λ k m. bits_there t.slots.items number k.minor bits (other_number k (filter_from p t.firsts.keys k m).0)) (λ k n m low.
+      let there = (filter_from p t.firsts.keys k m).0 in
+      let few = (slab_filled (bits_at t.slots.items k.minor).class (i.kept.slab k there).small).2 in
+      let few' = (slab_filled class (subst (λ n. n < 36) is new.small)).2 in
+      let other = other_number k there in
       others (512 * k.minor + n) (elim (cases_lt k.minor number) [ inl l ↦ inl (omega arith) | inr g ↦ inr (omega arith) ])) in
-      let fresh : AreNew addr_of come (regions_in t) = every_from (λ (r : Region). find (starts_at r.addr) (regions_in t) ≡ None) come (λ r m.
-      let p = map_from made (range_with_len 0 count) r m in
-      let low = (range_from 0 count p.0 p.1).1 in
-      let at : place class first p.0 ≡ r.addr = ap (λ (x : Region). x.addr) p.2 in
-      let inside = place_inside class first p.0 small (omega arith) in
-      not_found addr_of (regions_in t) r.addr (λ q n e.
-      let o = out_from old was t.firsts.keys q n in
-      let b = bits_at old (o.0).minor in
-      let low' = (i.kept.slab o.0 o.2.there).small in
-      let inside' = place_inside b.class (o.0).major o.1 low' o.2.low in
-      let size' = (size_bounds b.class (omega arith)).0 in
-      let at' : place b.class (o.0).major o.1 ≡ q.addr = ap (λ (x : Region). x.addr) o.2.is in
-      elim (beside o.0 o.2.there) [ inl far ↦ omega arith | inr far ↦ omega arith ])) in
-      same_members addr_of (out_of_slabs slots codes keys) (landing come (regions_in t)) (regions_rise slots codes keys ascending kept_added) (landed come (regions_in t) coming rising fresh).rising
-      (λ r m.
-      let p = out_from slots codes keys r m in
-      let o = p.2 in
-      elim (with_from t.firsts.keys slab p.0 o.there) [
-        | inl e ↦
-            let out : get_or bits.free p.1 false ≡ false = ap (λ (b : Bits). get_or b.free p.1 false) (sym mine) ∙ ap (λ (z : Key). get_or (bits_at slots z.minor).free p.1 false) (sym e) ∙ o.out in
-            let low : p.1 < regions_at bits.class = subst (λ (b : Bits). p.1 < regions_at b.class) mine (subst (λ (z : Key). p.1 < regions_at (bits_at slots z.minor).class) e o.low) in
-            let told = run p.1 in
-            let l : p.1 < count = elim (cases_lt p.1 count) [ inl l ↦ l | inr g ↦ absurd (grind (arith, nat_tests)) ] in
-            let it : made p.1 ≡ r = sym (region p.1 l) ∙ ap (λ (z : Key). slab_region slots codes z p.1) (sym e) ∙ o.is in
-            landed_new come (regions_in t) coming rising fresh r (subst (Contains come) it (map_has made (range_with_len 0 count) p.1 (range_has 0 count p.1 (omega arith) (omega arith))))
-        | inr d ↦ landed_old come (regions_in t) coming rising fresh r (subst (λ rs. Contains rs r) theirs (out_has slots codes t.firsts.keys r p.0 p.1 (record { there = d; low = o.low; out = o.out; is = o.is })))
-      ])
-      (λ r m. elim (landed_from come (regions_in t) coming rising fresh r m) [
-        | inl d ↦
-            let p = map_from made (range_with_len 0 count) r d in
-            let l = (range_from 0 count p.0 p.1).1 in
-            let same = ap regions_at is in
-            let told = run p.0 in
-            let out : get_or bits.free p.0 false ≡ false = grind (arith, nat_tests) in
-            out_has slots codes keys r slab p.0 (record { there = with_self t.firsts.keys slab; low = subst (λ (b : Bits). p.0 < regions_at b.class) (sym mine) (omega arith); out = ap (λ (b : Bits). get_or b.free p.0 false) mine ∙ out; is = region p.0 (omega arith) ∙ p.2 })
-        | inr d ↦
-            let p = out_from slots codes t.firsts.keys r (subst (λ rs. Contains rs r) (sym theirs) d) in
-            let o = p.2 in
-            out_has slots codes keys r p.0 p.1 (record { there = with_keeps t.firsts.keys slab p.0 o.there; low = o.low; out = o.out; is = o.is })
-      ])
+      let before : regions_in t ≡ were lower ++ were higher = ap were (parts key_cmp key_total slab t.firsts.keys i.ascending ∙ ap (λ ks. lower ++ ks) (absent key_cmp key_total slab key_tie t.firsts.keys new_key)) ∙ regions_both t.slots.items t.holders lower higher in
+      let after : out_of_slabs slots codes keys ≡ were lower ++ (come ++ were higher) = regions_both slots codes lower (slab ∷ higher) ∙ ap (λ rs. out_of_slabs slots codes lower ++ rs) (regions_first slots codes slab higher)
+      ∙ (λ x. theirs (is_below slab) x ++ (mine x ++ theirs (is_above slab) x)) in
+      after ∙ sym (ap (landing come) before ∙ landing_between (were lower) come (were higher) (subst (IsRising addr_of) after (regions_rise slots codes keys ascending kept_added)))
 
 -- how many slabs there are
 pub few_slabs : (t : Table) → IsSlabTable t → (class : ℕ) → class < 36 → get_or t.counts class 0 < 2 ^ 32
 unfolding slabs_in
-few_slabs t i class small =
-    let most = count_by-le-length (λ s. eqb s.class class) (map (slab_at t.slots.items) t.firsts.keys) in
-    let len = length-map t.firsts.keys (slab_at t.slots.items) in
-    let is = i.counts class small in
-    omega arith
+few_slabs t i class small = omega (arith, count_by-le-length (λ s. eqb s.class class) (map (slab_at t.slots.items) t.firsts.keys), length-map t.firsts.keys (slab_at t.slots.items), i.counts class small)
 
 -- a list without a number has it nowhere
 pub count_zero : (ns : List ℕ) (n : ℕ) → (Contains ns n → ⊥) → count_by (λ m. eqb m n) ns ≡ 0
@@ -307,11 +226,9 @@ module _ (t : Table) (i : IsSlabTable t) (slab : Key) (there : Contains t.firsts
 
   -- each other slab is as it was
   pub kept_less : AreSlabKeys t.slots.items rest_keys
-  kept_less = record {
-    slab = λ k m. i.kept.slab k (without_from t.firsts.keys slab k m).0;
-    apart = λ k l m n. i.kept.apart k l (without_from t.firsts.keys slab k m).0 (without_from t.firsts.keys slab l n).0;
-    numbers = λ k l m n. i.kept.numbers k l (without_from t.firsts.keys slab k m).0 (without_from t.firsts.keys slab l n).0;
-  }
+  kept_less =
+      let old = without_from t.firsts.keys slab in
+      record { slab = λ k m. i.kept.slab k (old k m).0; apart = λ k l m n. i.kept.apart k l (old k m).0 (old l n).0; numbers = λ k l m n. i.kept.numbers k l (old k m).0 (old l n).0 }
 
   binned_less : IsBinned t.slots.items rest_keys (without_key t.bins.keys (bin_of t.slots.items slab))
   binned_less = record {
@@ -332,7 +249,7 @@ module _ (t : Table) (i : IsSlabTable t) (slab : Key) (there : Contains t.firsts
     firsts = λ k m. ap (λ v. get_or v.items k.minor 0) firsts ∙ i.charted.firsts k (without_from t.firsts.keys slab k m).0;
     holders = λ page n e.
         let h = i.charted.holders page n (only page n e) in
-        let gone : h.0 ≢ slab = (λ same. let no : None ≡ Some n = sym (none page (subst (λ (z : Key). HasPage z.major (pages_at (bits_at t.slots.items z.minor).class) page) same h.1.has)) ∙ e in cc) in
+        let gone : h.0 ≢ slab = (λ same. let far = none page (subst (λ (z : Key). HasPage z.major (pages_at (bits_at t.slots.items z.minor).class) page) same h.1.has) in cc) in
         (h.0, record { there = without_keeps t.firsts.keys slab h.0 h.1.there gone; at = h.1.at; has = h.1.has });
   }
 
@@ -340,40 +257,22 @@ module _ (t : Table) (i : IsSlabTable t) (slab : Key) (there : Contains t.firsts
   free_more = record {
     in_slots = λ n m. grind (arith, Contains-push_cases t.free.items slab.minor n m, i.free.in_slots n, i.in_slots slab there);
     unused = λ n k m o f. let p = without_from t.firsts.keys slab k o in grind (arith, Contains-push_cases t.free.items slab.minor n m, i.free.unused n k, i.kept.numbers k slab p.0 there, p.0, p.1, f);
-    once = λ n.
-        let whole = sum_by-append (λ m. bit (eqb m n)) t.free.items (slab.minor ∷ []) in
-        let one = sum_by-cons (λ m. bit (eqb m n)) slab.minor [] in
-        let most = i.free.once n in
-        let none = λ (is : slab.minor ≡ n). count_zero t.free.items n (λ m. i.free.unused n slab m there is) in
-        grind (arith, nat_tests, whole, one, most, none);
+    once = λ n. grind (arith, nat_tests, sum_by-append (λ m. bit (eqb m n)) t.free.items (slab.minor ∷ []), sum_by-cons (λ m. bit (eqb m n)) slab.minor [], i.free.once n, (λ (is : slab.minor ≡ n). count_zero t.free.items n (λ m. i.free.unused n slab m there is)));
   }
 
   abbrev class_of_slab : ℕ
   class_of_slab = (bits_at t.slots.items slab.minor).class
 
   class_fewer : (c : ℕ) → count_by (λ s. eqb s.class c) (map (slab_at t.slots.items) rest_keys) + bit (eqb class_of_slab c) ≡ count_by (λ s. eqb s.class c) (map (slab_at t.slots.items) t.firsts.keys)
-  class_fewer c =
-      let all = count_map (slab_at t.slots.items) (λ s. eqb s.class c) t.firsts.keys in
-      let less = count_map (slab_at t.slots.items) (λ s. eqb s.class c) rest_keys in
-      let one = count_without (λ k. eqb (bits_at t.slots.items k.minor).class c) t.firsts.keys slab i.ascending there in
-      omega arith
+  class_fewer c = omega (arith, count_map (slab_at t.slots.items) (λ s. eqb s.class c), count_without (λ k. eqb (bits_at t.slots.items k.minor).class c) t.firsts.keys slab i.ascending there)
 
   pub some_count : 1 ≤ get_or t.counts class_of_slab 0
   unfolding slabs_in
-  some_count =
-      let is = i.counts class_of_slab (i.kept.slab slab there).small in
-      let one = class_fewer class_of_slab in
-      let mine : bit (eqb class_of_slab class_of_slab) ≡ 1 = ap bit (eq-eqb class_of_slab class_of_slab refl) in
-      omega arith
+  some_count = grind (arith, nat_tests, i.counts class_of_slab (i.kept.slab slab there).small, class_fewer class_of_slab)
 
   counts_less : AreCounts (set t.counts class_of_slab (get_or t.counts class_of_slab 0 - 1)) (map (slab_at t.slots.items) rest_keys)
   unfolding slabs_in
-  counts_less c low =
-      let was = i.counts c low in
-      let all = class_fewer c in
-      let small = (i.kept.slab slab there).small in
-      let some = some_count in
-      omega (arith, counted_less t.counts class_of_slab c (omega arith))
+  counts_less c low = omega (arith, i.counts c low, class_fewer c, (i.kept.slab slab there).small, some_count, counted_less t.counts class_of_slab c (omega (arith, (i.kept.slab slab there).small)))
 
   pub fewer_keys : length rest_keys + 1 ≡ length t.firsts.keys
   fewer_keys = length_without t.firsts.keys slab i.ascending there
@@ -386,33 +285,15 @@ module _ (t : Table) (i : IsSlabTable t) (slab : Key) (there : Contains t.firsts
       let len = ap (λ v. vec_len v) slots in
       let fewer = ap length firsts in
       let one = fewer_keys in
-      record {
-        ascending = ascending;
-        kept = rw (items, firsts) kept_less;
-        binned = rw (items, firsts, bins) binned_less;
-        charted = rw (items, firsts) charted;
-        in_slots = λ k m. let low = i.in_slots k (without_from t.firsts.keys slab k (subst (λ ks. Contains ks k) firsts m)).0 in omega arith;
-        free = rw (free_items, firsts, len) free_more;
-        classes = ap length counts ∙ length-set t.counts class_of_slab (get_or t.counts class_of_slab 0 - 1) ∙ i.classes;
-        counts = rw (counts, items, firsts) counts_less;
-        places = omega arith;
-        held = rw (len, codes) i.held;
-        small = omega arith;
-        room = omega arith;
-        chart_room = omega arith;
-        firsts_room = omega arith;
-        bins_room = omega arith;
-      }
+      let classes = ap length counts ∙ length-set t.counts class_of_slab (get_or t.counts class_of_slab 0 - 1) ∙ i.classes in
+      let in_slots : (k : Key) → Contains u.firsts.keys k → k.minor < vec_len u.slots = λ k m. omega (arith, i.in_slots k (without_from t.firsts.keys slab k (subst (λ ks. Contains ks k) firsts m)).0) in
+      search (rules, arith, items, firsts, bins, free_items, len, counts, codes, ascending, kept_less, binned_less, charted, free_more, counts_less, i.held)
 
   pub slabs_less : (u : Table) → u.firsts.keys ≡ rest_keys → u.slots ≡ t.slots → slabs_in u ≡ slabs_without t slab
   unfolding slabs_in
   slabs_less u firsts slots = let items = ap (λ v. v.items) slots in rw (items, firsts) refl
 
 -- ---- all slabs go
-
-pub no_slabs : (t : Table) → IsSlabTable t → t.firsts.keys ≡ [] → slabs_in t ≡ []
-unfolding slabs_in
-no_slabs t i e = ap (map (slab_at t.slots.items)) e
 
 pub length_slabs : (t : Table) → length (slabs_in t) ≡ length t.firsts.keys
 unfolding slabs_in

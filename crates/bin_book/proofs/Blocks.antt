@@ -1,5 +1,5 @@
 -- The blocks of places, and the codes in them.
-use Rattle.bin_book.proofs.Words.{◌≡◌, ◌≢◌, ℕ, ◌+◌, ◌-◌, ◌*◌, ◌/◌, ◌%◌, ◌<◌, ◌≤◌, cond, ltb, List, ◌++◌, length, length-set, get_or, set, inl, inr, refl, sym, ap, ◌∙◌, arith, replicate, cases_eq, cases_lt, get_or-set_other, get_or-set_same, get_or_past, get_or-map-range_with_len, length-map-range_with_len, nat_tests, sum_by-append, sum_by-replicate, sum_by-set, count_by-le-length, reads_more, AreBlocks, block_of, code_at, codes_in}
+use Rattle.bin_book.proofs.Words.{◌≡◌, ◌≢◌, ℕ, ◌+◌, ◌-◌, ◌*◌, ◌/◌, ◌%◌, ◌<◌, ◌≤◌, cond, ltb, List, ◌++◌, length, length-set, get_or, set, inl, inr, refl, ◌∙◌, arith, replicate, cases_eq, cases_lt, get_or-set_other, get_or-set_same, get_or_past, get_or-map-range_with_len, length-map-range_with_len, nat_tests, sum_by-append, sum_by-replicate, sum_by-set, count_by-le-length, reads_more, AreBlocks, block_of, code_at, codes_in}
 
 -- how many places there are
 pub codes_length : (blocks codes : List ℕ) → length (codes_in blocks codes) ≡ 64 * length blocks
@@ -28,20 +28,11 @@ module _ (blocks : List ℕ) (len : ℕ) (are : AreBlocks blocks len) where
   block_owned index inside bare =
       let now = set blocks index (len / 64 + 1) in
       let here : get_or now index 0 ≡ len / 64 + 1 = get_or-set_same blocks index (len / 64 + 1) 0 inside in
-      let other : (k : ℕ) → k ≢ index → get_or now k 0 ≡ get_or blocks k 0 = (λ k ne. get_or-set_other blocks index k (len / 64 + 1) 0 ne) in
+      let other = λ (k : ℕ) (ne : k ≢ index). get_or-set_other blocks index k (len / 64 + 1) 0 ne in
       record {
-        filled = grind (arith, nat_tests, sum_by-set (λ b. cond (ltb 0 b) 1 0) blocks index (len / 64 + 1) 0, are.filled);
-        taken = λ k. elim (cases_eq k index) [
-          | inl e ↦ rw (e, here) (omega (arith, are.filled))
-          | inr ne ↦ rw (other k ne) (omega (arith, are.taken k))
-        ];
-        apart = λ k l some same. elim (cases_eq k index) [
-          | inl e ↦ elim (cases_eq l index) [ inl f ↦ e ∙ sym f | inr nf ↦ absurd (omega (arith, are.taken l, other l nf, here, ap (λ n. get_or now n 0) e, are.filled)) ]
-          | inr ne ↦ elim (cases_eq l index) [
-            | inl f ↦ absurd (omega (arith, are.taken k, other k ne, here, ap (λ n. get_or now n 0) f, are.filled))
-            | inr nf ↦ are.apart k l (omega (arith, other k ne)) (sym (other k ne) ∙ same ∙ other l nf)
-          ]
-        ];
+        filled = grind (arith, nat_tests, sum_by-set (λ b. cond (ltb 0 b) 1 0) blocks index (len / 64 + 1) 0 inside, are.filled, bare);
+        taken = λ k. grind (arith, cases_eq k index, here, other k, are.filled, are.taken k);
+        apart = λ k l some same. grind (arith, cases_eq k index, cases_eq l index, here, other k, other l, are.filled, are.taken k, are.taken l, are.apart k l, some, same);
       }
 
   -- a code that is written at a place

@@ -1,5 +1,5 @@
 -- The pages of a slab get its number.
-use Rattle.bin_book.proofs.Words.{Bool, leb, ◌≡◌, ℕ, ◌+◌, ◌-◌, ◌/◌, ◌<◌, ◌≤◌, true, false, if◌then◌else◌, cond, eqb, ◌||◌, ◌⊎◌, Some, None, refl, ap, ◌∙◌, arith, nat_cmp, nat_cmp_total, unsigned_tied, nat_tests, leb-true, eq-eqb, class_sizes, least_pages, pages_at, at, passes_below, Pages, HasPage}
+use Rattle.bin_book.proofs.Words.{Bool, leb, ◌≡◌, ℕ, ◌+◌, ◌-◌, ◌/◌, ◌<◌, ◌≤◌, true, if◌then◌else◌, cond, eqb, ◌⊎◌, Some, None, refl, ap, ◌∙◌, arith, nat_cmp, nat_cmp_total, unsigned_tied, nat_tests, leb-true, class_sizes, least_pages, pages_at, at, passes_below, Pages, HasPage}
 use Rattle.std.specs.FinMap as map_of
 use Rattle.std.specs.FinSet as set_of
 
@@ -34,18 +34,11 @@ some_leaf old new first slab page run some inside = grind (arith, run.leaves, ru
 pub longer_run : (old new next : Pages) (first slab page : ℕ) → HasRun old new first slab page → first ≤ page → 0 < new.spare → next.numbers ≡ map_of.insert new.numbers page slab → next.chunks ≡ set_of.insert new.chunks (page / 512)
     → next.spare ≡ (if set_of.contains new.chunks (page / 512) then new.spare else new.spare - 1) → HasRun old next first slab (page + 1)
 longer_run old new next first slab page run from some numbers chunks spare = record {
-  numbers = λ p low l. ap (λ m. map_of.get m p) numbers ∙ get_set new.numbers page slab p ∙ by p low (eqb p page) refl l;
+  numbers = λ p low l. ap (λ m. map_of.get m p) numbers ∙ get_set new.numbers page slab p ∙ grind (arith, nat_tests, run.numbers p, low, l);
   none_yet = λ l. absurd (omega arith);
-  leaf = λ l. let at : page + 1 - 1 ≡ page = omega arith in ap (λ s. set_of.contains s ((page + 1 - 1) / 512)) chunks ∙ ap (λ p. set_of.contains (set_of.insert new.chunks (page / 512)) (p / 512)) at ∙ contains_new new.chunks (page / 512);
+  leaf = λ l. let at : page + 1 - 1 ≡ page = omega arith in rw (at, chunks) (set_of.contains-insert nat_cmp_total new.chunks (page / 512) (page / 512) ∙ grind (arith, nat_tests, unsigned_tied));
   leaves = λ l. grind (arith, spare, run.leaves, run.none_yet, run.leaf);
 }
-  where
-    by : (p : ℕ) → first ≤ p → (b : Bool) → eqb p page ≡ b → p < page + 1 → cond b (Some slab) (map_of.get new.numbers p) ≡ Some slab
-    by p low true t l = refl
-    by p low false f l = run.numbers p low (grind (arith, nat_tests, f))
-
-    contains_new : (s : set_of.FinSet nat_cmp) (k : ℕ) → set_of.contains (set_of.insert s k) k ≡ true
-    contains_new s k = set_of.contains-insert nat_cmp_total s k k ∙ ap (λ b. b || set_of.contains s k) (unsigned_tied k k ∙ eq-eqb k k refl)
 
 -- ---- how many pages a slab has
 

@@ -1,7 +1,8 @@
 -- More slots.
-use Rattle.bin_book.proofs.Words.{nat_cmp, append-nil, append_assoc, ◌≡◌, ℕ, ◌+◌, ◌-◌, ◌*◌, ◌^◌, ◌<◌, ◌≤◌, zero, suc, eqb, List, [], ◌∷◌, ◌++◌, length, map, get_or, count_by, inl, inr, sym, ap, ◌∙◌, subst, arith, Contains, Some, None, refl, vec_len, vec_capacity, range_with_len, IsStrictlySortedBy, cases_lt, nat_tests, get_or_append_left, Contains-append_cases, sum_by-append, sum_by-cons, pages_at, slab_filled, Key, IsAscending, Bits, Chart, Table, BinSlab, Grows, HasPage, holder_at, AreFreeSlots, IsBinned, IsCharted, AreSlabKeys, IsSlabIn, IsSlabTable, bin_key, bits_at, left_of, no_bits, regions_in, out_of_slabs, slab_at, slab_of, slabs_in, bit, map_same, range_from}
+use Rattle.bin_book.proofs.Words.{nat_cmp, append-nil, append_assoc, ◌≡◌, ℕ, ◌+◌, ◌-◌, ◌*◌, ◌^◌, ◌<◌, ◌≤◌, zero, suc, eqb, List, [], ◌∷◌, ◌++◌, length, map, get_or, count_by, sym, ap, ◌∙◌, subst, arith, Contains, Some, None, vec_len, vec_capacity, range_with_len, IsStrictlySortedBy, cases_lt, nat_tests, get_or_append_left, Contains-append_cases, sum_by-append, sum_by-cons, pages_at, slab_filled, Key, IsAscending, Bits, Chart, Table, BinSlab, Grows, HasPage, holder_at, AreFreeSlots, IsBinned, IsCharted, AreSlabKeys, IsSlabIn, IsSlabTable, AreCounts, bin_key, bits_at, left_of, no_bits, regions_in, out_of_slabs, slab_at, slab_of, slabs_in, bit, map_same, range_from}
 use Rattle.bin_book.proofs.Regions.{regions_agree}
 use Rattle.bin_book.proofs.Adding.{count_zero}
+use Rattle.std.proofs.Common.{rules}
 use Rattle.std.specs.FinMap as map_of
 
 -- one more number of a range
@@ -10,10 +11,7 @@ range_more a zero = grind arith
 range_more a (suc n) = grind (arith, range_more (a + 1) n)
 
 pub numbers_more : (old free new : List ℕ) (a number m : ℕ) → a ≤ number → m ≡ number → free ≡ old ++ range_with_len a (number - a) → new ≡ free ++ m ∷ [] → new ≡ old ++ range_with_len a (number + 1 - a)
-numbers_more old free new a number m le is e f =
-    let len : number + 1 - a ≡ suc (number - a) = omega arith in
-    let last : m ≡ a + (number - a) = omega arith in
-    f ∙ ap (λ xs. xs ++ m ∷ []) e ∙ append_assoc old (range_with_len a (number - a)) (m ∷ []) ∙ ap (λ xs. old ++ xs) (ap (λ x. range_with_len a (number - a) ++ x ∷ []) last ∙ sym (range_more a (number - a)) ∙ ap (range_with_len a) (sym len))
+numbers_more old free new a number m le is e f = grind (arith, range_more a (number - a), append_assoc {A = ℕ}, le, is, e, f)
 
 pub bits_more : (old slots new : List Bits) (b : Bits) (n len : ℕ) → n < len → len ≤ length slots → new ≡ slots ++ b ∷ [] → bits_at slots n ≡ bits_at old n → bits_at new n ≡ bits_at old n
 bits_more old slots new b n len l few e same = ap (λ xs. bits_at xs n) e ∙ get_or_append_left slots (b ∷ []) no_bits n (omega arith) ∙ same
@@ -65,57 +63,38 @@ module _ (t u : Table) (i : IsSlabTable t) (firsts : u.firsts.keys ≡ t.firsts.
   slabs_grown = rw firsts (map_same (slab_at u.slots.items) (slab_at t.slots.items) t.firsts.keys (λ k m. ap (λ (b : Bits). slab_of b k.major) (same_bits k m)))
 
   free_grown : (le : vec_len t.slots ≤ vec_len u.slots) → AreFreeSlots (t.free.items ++ range_with_len (vec_len t.slots) (vec_len u.slots - vec_len t.slots)) t.firsts.keys (vec_len u.slots)
-  free_grown le = record {
-    in_slots = λ n m. grind (arith, Contains-append_cases t.free.items _ n m, i.free.in_slots n, range_from (vec_len t.slots) (vec_len u.slots - vec_len t.slots) n);
-    unused = λ n k m o. grind (arith, Contains-append_cases t.free.items _ n m, i.free.unused n k, range_from (vec_len t.slots) (vec_len u.slots - vec_len t.slots) n, i.in_slots k o);
-    once = λ n.
-        let whole = sum_by-append (λ m. bit (eqb m n)) t.free.items (range_with_len (vec_len t.slots) (vec_len u.slots - vec_len t.slots)) in
-        let few = i.free.once n in
-        elim (cases_lt n (vec_len t.slots)) [
-          | inl l ↦ let none = count_low (vec_len t.slots) (vec_len u.slots - vec_len t.slots) n l in omega arith
-          | inr g ↦ let none = count_zero t.free.items n (λ m. let low = i.free.in_slots n m in omega arith) in let one = count_range (vec_len t.slots) (vec_len u.slots - vec_len t.slots) n in omega arith
-        ];
-  }
+  free_grown le =
+      let range = range_with_len (vec_len t.slots) (vec_len u.slots - vec_len t.slots) in
+      let new = range_from (vec_len t.slots) (vec_len u.slots - vec_len t.slots) in
+      record {
+        in_slots = λ n m. grind (arith, Contains-append_cases t.free.items range n m, i.free.in_slots n, new n);
+        unused = λ n k m o. grind (arith, Contains-append_cases t.free.items range n m, i.free.unused n k, new n, i.in_slots k o);
+        once = λ n. grind (arith, sum_by-append (λ m. bit (eqb m n)) t.free.items range, i.free.once n, cases_lt n (vec_len t.slots), count_low (vec_len t.slots) (vec_len u.slots - vec_len t.slots) n, count_range (vec_len t.slots) (vec_len u.slots - vec_len t.slots) n, (λ (g : vec_len t.slots ≤ n). count_zero t.free.items n (λ m. omega (arith, i.free.in_slots n m))));
+      }
 
   pub table_grown : vec_len t.slots ≤ vec_len u.slots → u.free.items ≡ t.free.items ++ range_with_len (vec_len t.slots) (vec_len u.slots - vec_len t.slots) → vec_len u.free + vec_len t.slots ≡ vec_len t.free + vec_len u.slots
       → vec_len u.slots < 2 ^ 32 → vec_len u.slots ≤ vec_capacity u.free → vec_len u.slots ≤ vec_len u.chart.firsts → vec_len u.free ≤ u.firsts.spare → vec_len u.free ≤ u.bins.spare → 512 * vec_len u.slots ≤ length u.holders → IsSlabTable u
   table_grown le free places small room chart_room firsts_room bins_room held =
       let len = ap length firsts in
-      record {
-        ascending = rw firsts i.ascending;
-        kept = rw firsts kept_grown;
-        binned = rw (firsts, bins) binned_grown;
-        charted = rw firsts charted_grown;
-        in_slots = λ k m. let low = i.in_slots k (subst (λ ks. Contains ks k) firsts m) in omega arith;
-        free = rw (free, firsts) (free_grown le);
-        classes = ap length counts ∙ i.classes;
-        counts = λ class small. ap (λ ns. get_or ns class 0) counts ∙ i.counts class small ∙ sym (ap (count_by (λ (s : BinSlab). eqb s.class class)) slabs_grown);
-        places = omega arith;
-        held = held;
-        small = small;
-        room = room;
-        chart_room = chart_room;
-        firsts_room = firsts_room;
-        bins_room = bins_room;
-      }
+      let classes = ap length counts ∙ i.classes in
+      let in_slots : (k : Key) → Contains u.firsts.keys k → k.minor < vec_len u.slots = λ k m. omega (arith, i.in_slots k (subst (λ ks. Contains ks k) firsts m)) in
+      search (rules, arith, firsts, bins, counts, free, slabs_grown, i.ascending, kept_grown, binned_grown, charted_grown, free_grown le, i.counts)
 
 -- a table whose sets and chart have more room, and that is as it was otherwise
 pub table_roomy : (t u : Table) → IsSlabTable t → u.firsts.keys ≡ t.firsts.keys → t.firsts.spare ≤ u.firsts.spare → u.bins.keys ≡ t.bins.keys → t.bins.spare ≤ u.bins.spare → u.slots ≡ t.slots → u.free ≡ t.free → u.counts ≡ t.counts → length t.holders ≤ length u.holders → Grows t.chart u.chart → IsSlabTable u × (slabs_in u ≡ slabs_in t)
 table_roomy t u i firsts more bins wider slots free counts codes chart =
-    let items = ap (λ v. v.items) slots in
     let len = ap (λ v. vec_len v) slots in
-    let free_items = ap (λ v. v.items) free in
     let free_len = ap (λ v. vec_len v) free in
     let cap = ap (λ v. vec_capacity v) free in
-    let agree = (λ (n : ℕ) (l : n < vec_len t.slots). ap (λ xs. bits_at xs n) items) in
+    let agree = (λ (n : ℕ) (l : n < vec_len t.slots). ap (λ v. bits_at v.items n) slots) in
     let places = chart.places in
     let none : vec_len u.slots - vec_len t.slots ≡ 0 = omega arith in (
-      table_grown t u i firsts bins counts agree chart (omega arith) (free_items ∙ sym (append-nil t.free.items) ∙ ap (λ n. t.free.items ++ range_with_len (vec_len t.slots) n) (sym none)) (omega arith) (omega arith) (omega arith) (omega arith) (omega arith) (omega arith) (omega arith),
+      table_grown t u i firsts bins counts agree chart (omega arith) (ap (λ v. v.items) free ∙ rw none (sym (append-nil t.free.items))) (omega arith) (omega arith) (omega arith) (omega arith) (omega arith) (omega arith) (omega arith),
       slabs_grown t u i firsts bins counts agree chart,
     )
 
 pub same_chart : (chart : Chart) → Grows chart chart
-same_chart chart = record { numbers = refl; firsts = λ n l. refl; places = omega arith }
+same_chart chart = search rules
 
 -- ---- a table without slabs
 
@@ -129,24 +108,7 @@ none_ascending = tt
 
 pub empty_table : (t : Table) → t.firsts.keys ≡ [] → t.bins.keys ≡ [] → vec_len t.slots ≡ 0 → t.free.items ≡ [] → vec_len t.free ≡ 0 → length t.counts ≡ 36 → ((class : ℕ) → class < 36 → get_or t.counts class 0 ≡ 0) → t.chart.pages.numbers ≡ map_of.empty → IsSlabTable t
 empty_table t firsts bins slots free free_len classes zeros chart =
-    let none = λ (k : Key) (m : Contains t.firsts.keys k). no_member firsts m in
-    record {
-      ascending = rw firsts none_ascending;
-      kept = record { slab = λ k m. absurd (none k m); apart = λ k l m. absurd (none k m); numbers = λ k l m. absurd (none k m) };
-      binned = record { has = λ k m. absurd (none k m); from = λ b m. absurd (no_member bins m) };
-      charted = record { firsts = λ k m. absurd (none k m); holders = λ page n e. absurd (let no : None ≡ Some n = sym (ap (λ ns. map_of.get ns page) chart ∙ map_of.get-empty nat_cmp page) ∙ e in cc) };
-      in_slots = λ k m. absurd (none k m);
-      free = record { in_slots = λ n m. absurd (no_member free m); unused = λ n k m. absurd (no_member free m); once = λ n. rw free (omega arith) };
-      classes = classes;
-      counts = λ class small. zeros class small ∙ sym (ap (count_by (λ (s : BinSlab). eqb s.class class)) (empty_slabs t firsts));
-      places = let len = ap length firsts in omega arith;
-      held = omega arith;
-      small = omega arith;
-      room = omega arith;
-      chart_room = omega arith;
-      firsts_room = omega arith;
-      bins_room = omega arith;
-    }
-  where
-    no_member : {X : Type 0} {xs : List X} {x : X} → xs ≡ [] → Contains xs x → ⊥
-    no_member {X} {xs} {x} e m = let n : Contains {X = X} [] x = subst (λ ys. Contains ys x) e m in omega arith
+    let len = ap length firsts in
+    let numbers : (page n : ℕ) → map_of.get t.chart.pages.numbers page ≡ Some n → ⊥ = λ page n e. let no : None ≡ Some n = sym (ap (λ ns. map_of.get ns page) chart ∙ map_of.get-empty nat_cmp page) ∙ e in cc in
+    let counts : AreCounts t.counts (slabs_in t) = λ class small. zeros class small ∙ sym (ap (count_by (λ (s : BinSlab). eqb s.class class)) (empty_slabs t firsts)) in
+    search (rules, arith, firsts, bins, slots, free, none_ascending, counts, numbers)

@@ -1,7 +1,7 @@
 -- Which slab has an address, and the region that begins there, or none.
-use Rattle.bin_book.proofs.Words.{Option, IfNone, IfSome, ◌≡◌, ℕ, ◌+◌, ◌-◌, ◌*◌, ◌/◌, ◌%◌, ◌<◌, ◌≤◌, true, false, ◌&&◌, eqb, ltb, List, length, map, filter, get_or, Some, None, ◌⊎◌, inl, inr, refl, sym, ap, ◌∙◌, subst, arith, Contains, is_lt, vec_len, find, option_map, list_any, range_with_len, div-add-mod', mul-div_cancel, mul-mod_left, cases_Bool, eq-eqb, eqb-true, false_from_ne_true, nat_tests, IsStrictlySortedBy-filter, get_or_from_slice_get, slice_get-get_or, slice_get_within, pages_at, regions_at, size_at, pages_bounds, size_bounds, Key, IsAscending, is_below, key_cmp, last_of, filter_from, filter_has, last_greatest, less_from_parts, less_parts, start, every_member, less_from_lt, Table, BinSlab, is_among, is_out, place, slab_places, addr_of, HasOut, IsLastKeyBelow, IsOutAt, IsSlabTable, bits_at, ones, slab_at, slabs_in, slab_region, regions_in, any_from, any_has, any_map, any_none, map_from, map_has, range_from, range_has, Region, starts_at, member_found}
+use Rattle.bin_book.proofs.Words.{Option, IfNone, IfSome, ◌≡◌, ℕ, ◌+◌, ◌-◌, ◌*◌, ◌/◌, ◌%◌, ◌<◌, ◌≤◌, true, false, ◌&&◌, eqb, ltb, List, length, map, filter, get_or, Some, None, ◌⊎◌, inl, inr, refl, sym, ap, ◌∙◌, subst, arith, Contains, is_lt, vec_len, find, option_map, list_any, range_with_len, div-add-mod', mul-div_cancel, mul-mod_left, cases_Bool, eqb-true, false_from_ne_true, nat_tests, IsStrictlySortedBy-filter, get_or_from_slice_get, slice_get-get_or, slice_get_within, pages_at, regions_at, size_at, pages_bounds, size_bounds, Key, IsAscending, is_below, key_cmp, last_of, filter_from, filter_has, last_greatest, less_from_parts, less_parts, start, every_member, less_from_lt, Table, BinSlab, is_among, is_out, place, slab_places, HasOut, IsLastKeyBelow, IsOutAt, IsSlabTable, bits_at, ones, slab_at, slabs_in, slab_region, regions_in, any_from, any_has, any_map, any_none, map_from, map_has, range_from, range_has, Region, starts_at, is_some, is_some_find}
 use Rattle.bin_book.proofs.Places.{among_ones, place_inside}
-use Rattle.bin_book.proofs.Regions.{out_from, out_has, regions_rise}
+use Rattle.bin_book.proofs.Regions.{found_out, out_from}
 use Rattle.std.specs.FinMap as map_of
 
 below_page : (k : Key) (page : ℕ) → k.major < page → is_below (start page) k ≡ true
@@ -14,19 +14,15 @@ pub last_below : (keys : List Key) (page : ℕ) (key : Key) → IsAscending keys
 last_below keys page key ascending e =
     let ks = filter (is_below (start page)) keys in
     let m = filter_from (is_below (start page)) keys key (length ks - 1, slice_get_within ks (length ks - 1) key e, get_or_from_slice_get ks (length ks - 1) key key e) in
+    let greatest = last_greatest ks key (IsStrictlySortedBy-filter key_cmp (is_below (start page)) keys ascending) (sym e) in
     record {
       there = m.0;
       below = page_below key page m.1;
-      last = λ k n l. every_member (λ k. k.major ≤ key.major) ks (last_greatest ks key (IsStrictlySortedBy-filter key_cmp (is_below (start page)) keys ascending) (sym e)) k (filter_has (is_below (start page)) keys k n (below_page k page l));
+      last = λ k n l. every_member (λ k. k.major ≤ key.major) ks greatest k (filter_has (is_below (start page)) keys k n (below_page k page l));
     }
 
 pub none_below : (keys : List Key) (page : ℕ) → last_of (filter (is_below (start page)) keys) ≡ None → (k : Key) → Contains keys k → page ≤ k.major
-none_below keys page e k m = grind (arith, no_last (filter (is_below (start page)) keys) k e, filter_has (is_below (start page)) keys k m, below_page k page)
-  where
-    no_last : (ks : List Key) (k : Key) → last_of ks ≡ None → Contains ks k → ⊥
-    no_last ks k e (i, l, is) =
-        let some = slice_get-get_or ks (length ks - 1) k (omega arith) in
-        let no : None ≡ Some (get_or ks (length ks - 1) k) = sym e ∙ some in cc
+none_below keys page e k m = grind (arith, filter_has (is_below (start page)) keys k m, below_page k page, slice_get-get_or (filter (is_below (start page)) keys) (length (filter (is_below (start page)) keys) - 1) k, e)
 
 -- what a search below a page finds
 pub last_found : (keys : List Key) (page : ℕ) (found : Option Key) → IsAscending keys → found ≡ last_of (filter (is_below (start page)) keys) → IfSome found (λ key. IsLastKeyBelow keys page key)
@@ -49,15 +45,11 @@ module _ (t : Table) (i : IsSlabTable t) where
   pub charted_last : (page number : ℕ) → map_of.get t.chart.pages.numbers page ≡ Some number → IsLastKeyBelow t.firsts.keys (page + 1) (record { major = get_or t.chart.firsts.items number 0; minor = number })
   charted_last page number e =
       let h = i.charted.holders page number e in
-      let key = h.0 in
-      let there = h.1.there in
-      let has = h.1.has in
-      let first : get_or t.chart.firsts.items number 0 ≡ key.major = ap (λ n. get_or t.chart.firsts.items n 0) (sym h.1.at) ∙ i.charted.firsts key there in
-      let same : key ≡ record { major = get_or t.chart.firsts.items number 0; minor = number } = (λ x. record { major = sym first x; minor = h.1.at x }) in
+      let same : h.0 ≡ record { major = get_or t.chart.firsts.items number 0; minor = number } = (λ x. record { major = (sym (i.charted.firsts h.0 h.1.there) ∙ ap (λ n. get_or t.chart.firsts.items n 0) h.1.at) x; minor = h.1.at x }) in
       subst (IsLastKeyBelow t.firsts.keys (page + 1)) same (record {
-        there = there;
-        below = omega (arith, has.0);
-        last = λ k m l. grind (arith, i.kept.apart key k there m, has.1, l);
+        there = h.1.there;
+        below = omega (arith, h.1.has.0);
+        last = λ k m l. grind (arith, i.kept.apart h.0 k h.1.there m, h.1.has.1, l);
       })
 
   pub charted_found : (page : ℕ) (key : Key) → option_map (λ number. record { major = get_or t.chart.firsts.items number 0; minor = number }) (map_of.get t.chart.pages.numbers page) ≡ Some key → IsLastKeyBelow t.firsts.keys (page + 1) key
@@ -80,10 +72,9 @@ module _ (t : Table) (i : IsSlabTable t) where
   unfolding slabs_in
   meets_last first end some key last =
       let p = λ (s : BinSlab). ltb s.first end && ltb first (s.first + pages_at s.class) in
-      let below : ltb key.major end ≡ true = (let l = last.below in grind (arith, nat_tests)) in
       sym (elim (cases_Bool (ltb first (key.major + pages_at (bits_at t.slots.items key.minor).class))) [
-        | inl y ↦ any_has p (map (slab_at t.slots.items) t.firsts.keys) (slab_at t.slots.items key) (map_has (slab_at t.slots.items) t.firsts.keys key last.there) (rw (below, y) refl) ∙ sym y
-        | inr n ↦ any_map (slab_at t.slots.items) p t.firsts.keys ∙ any_none (λ k. p (slab_at t.slots.items k)) t.firsts.keys (λ k m. grind (arith, nat_tests, before_last end key last k m, below, n, pages_of key last.there)) ∙ sym n
+        | inl y ↦ any_has p (map (slab_at t.slots.items) t.firsts.keys) (slab_at t.slots.items key) (map_has (slab_at t.slots.items) t.firsts.keys key last.there) (grind (arith, nat_tests, last.below, y)) ∙ sym y
+        | inr n ↦ any_map (slab_at t.slots.items) p t.firsts.keys ∙ any_none (λ k. p (slab_at t.slots.items k)) t.firsts.keys (λ k m. grind (arith, nat_tests, before_last end key last k m, last.below, n, pages_of key last.there)) ∙ sym n
       ])
 
   pub meets_none : (first end : ℕ) → ((k : Key) → Contains t.firsts.keys k → end ≤ k.major) → false ≡ list_any (λ s. ltb s.first end && ltb first (s.first + pages_at s.class)) (slabs_in t)
@@ -99,13 +90,8 @@ module _ (t : Table) (i : IsSlabTable t) where
   out_here class addr key n o =
       let b = bits_at t.slots.items key.minor in
       let small = (i.kept.slab key o.there).small in
-      let here : b.class ≡ class = o.out.of_class in
-      let low : n < regions_at b.class = subst (λ c. n < regions_at c) (sym here) o.out.inside in
-      let at : place b.class key.major n ≡ addr = ap (λ c. place c key.major n) here ∙ o.at in
-      let one : eqb b.class class ≡ true = eq-eqb _ _ here in
-      let two : is_among (slab_places b.class key.major) addr ≡ true = any_has (λ a. eqb a addr) (slab_places b.class key.major) (place b.class key.major n) (map_has (place b.class key.major) (range_with_len 0 (regions_at b.class)) n (range_has 0 (regions_at b.class) n (omega arith) (omega arith))) (eq-eqb _ _ at) in
-      let three : is_among (map (place b.class key.major) (ones (regions_at b.class) b.free)) addr ≡ false = ap (is_among (map (place b.class key.major) (ones (regions_at b.class) b.free))) (sym at) ∙ among_ones b.class key.major (regions_at b.class) n b.free small low ∙ o.out.out in
-      rw (one, two, three) refl
+      let places = any_has (λ a. eqb a addr) (slab_places b.class key.major) (place b.class key.major n) (map_has (place b.class key.major) (range_with_len 0 (regions_at b.class)) n (grind (arith, range_has 0 (regions_at b.class) n, o.out.of_class, o.out.inside))) (grind (arith, nat_tests, o.at, o.out.of_class)) in
+      grind (arith, nat_tests, places, among_ones b.class key.major (regions_at b.class) n b.free small, o.at, o.out.of_class, o.out.inside, o.out.out)
 
   pub out_somewhere : (class addr : ℕ) (key : Key) (n : ℕ) → IsOutAt t class addr key n → true ≡ list_any (is_out class addr) (slabs_in t)
   unfolding slabs_in
@@ -116,17 +102,12 @@ module _ (t : Table) (i : IsSlabTable t) where
   out_shown class addr key m e =
       let b = bits_at t.slots.items key.minor in
       let small = (i.kept.slab key m).small in
-      let shown = map (place b.class key.major) (ones (regions_at b.class) b.free) in
-      let one : eqb b.class class ≡ true = grind (arith, e) in
-      let two : is_among (slab_places b.class key.major) addr ≡ true = grind (arith, e) in
-      let three : is_among shown addr ≡ false = grind (arith, e) in
-      let of_class = eqb-true b.class class one in
-      let a = any_from (λ a. eqb a addr) (slab_places b.class key.major) two in
+      let a = any_from (λ a. eqb a addr) (slab_places b.class key.major) (grind (arith, e)) in
       let p = map_from (place b.class key.major) (range_with_len 0 (regions_at b.class)) a.0 a.1 in
-      let r = range_from 0 (regions_at b.class) p.0 p.1 in
-      let low : p.0 < regions_at b.class = (let l = r.1 in omega arith) in
+      let low : p.0 < regions_at b.class = omega (arith, (range_from 0 (regions_at b.class) p.0 p.1).1) in
       let at : place b.class key.major p.0 ≡ addr = p.2 ∙ eqb-true _ _ a.2 in
-      let free = ap (is_among shown) (sym at) ∙ among_ones b.class key.major (regions_at b.class) p.0 b.free small low in (
+      let of_class : b.class ≡ class = grind (arith, nat_tests, e) in
+      let shown : is_among (map (place b.class key.major) (ones (regions_at b.class) b.free)) addr ≡ false = grind (arith, e) in (
         p.0,
         record {
           there = m;
@@ -134,7 +115,7 @@ module _ (t : Table) (i : IsSlabTable t) where
           out = record {
             of_class = of_class;
             inside = subst (λ c. p.0 < regions_at c) of_class low;
-            out = sym free ∙ three;
+            out = sym (among_ones b.class key.major (regions_at b.class) p.0 b.free small low) ∙ ap (is_among (map (place b.class key.major) (ones (regions_at b.class) b.free))) at ∙ shown;
           };
         },
       )
@@ -144,13 +125,7 @@ module _ (t : Table) (i : IsSlabTable t) where
   only_holder class addr key last k n o =
       let b = bits_at t.slots.items k.minor in
       let small = (i.kept.slab k o.there).small in
-      let here : b.class ≡ class = o.out.of_class in
-      let low : n < regions_at b.class = subst (λ c. n < regions_at c) (sym here) o.out.inside in
-      let at : place b.class k.major n ≡ addr = ap (λ c. place c k.major n) here ∙ o.at in
-      let inside = place_inside b.class k.major n small low in
-      let size = (size_bounds b.class (omega arith)).0 in
-      let below = last.below in
-      grind (arith, before_last (addr / 4096 + 1) key last k o.there, at, inside, size, below)
+      grind (arith, before_last (addr / 4096 + 1) key last k o.there, o.at, o.out.of_class, o.out.inside, place_inside b.class k.major n small, size_bounds b.class, last.below)
 
   -- where it has none out there, none is
   pub none_out : (class addr : ℕ) → ((k : Key) (n : ℕ) → IsOutAt t class addr k n → ⊥) → false ≡ list_any (is_out class addr) (slabs_in t)
@@ -160,31 +135,27 @@ module _ (t : Table) (i : IsSlabTable t) where
 
 -- ---- the region at an address
 
-module _ (t : Table) (i : IsSlabTable t) (class addr : ℕ) (small : class < 36) (key : Key) (last : IsLastKeyBelow t.firsts.keys (addr / 4096 + 1) key) where
+module _ (t : Table) (i : IsSlabTable t) (class addr : ℕ) (small : class < 36) (key : Key) (last : IsLastKeyBelow t.firsts.keys (addr / 4096 + 1) key) (size : ℕ) (of_class : size ≡ size_at class) where
   abbrev offset : ℕ
   offset = addr - 4096 * key.major
 
   pub from_first : 4096 * key.major ≤ addr
   from_first = let below = last.below in omega arith
 
-  some_size : 0 < size_at class
-  some_size = let size = (size_bounds class (omega arith)).0 in omega arith
-
-  pub out_at : offset % size_at class ≡ 0 → HasOut (bits_at t.slots.items key.minor) class (offset / size_at class) → IsOutAt t class addr key (offset / size_at class)
+  pub out_at : offset % size ≡ 0 → HasOut (bits_at t.slots.items key.minor) class (offset / size) → IsOutAt t class addr key (offset / size)
   out_at whole out = record {
     there = last.there;
-    at = (let parts = div-add-mod' offset (size_at class) in let first = from_first in omega arith);
+    at = ap (λ s. 4096 * key.major + offset / size * s) (sym of_class) ∙ (let parts = div-add-mod' offset size in let first = from_first in omega arith);
     out = out;
   }
 
-  pub out_not : (offset % size_at class ≡ 0 → HasOut (bits_at t.slots.items key.minor) class (offset / size_at class) → ⊥) → false ≡ list_any (is_out class addr) (slabs_in t)
+  pub out_not : (offset % size ≡ 0 → HasOut (bits_at t.slots.items key.minor) class (offset / size) → ⊥) → false ≡ list_any (is_out class addr) (slabs_in t)
   out_not none = none_out t i class addr (λ k n o.
-      let same = only_holder t i class addr key last k n o in
-      let p = subst (λ z. IsOutAt t class addr z n) same o in
+      let p = subst (λ z. IsOutAt t class addr z n) (only_holder t i class addr key last k n o) o in
       let at = p.at in
-      let is : offset ≡ n * size_at class = omega arith in
-      let place : offset / size_at class ≡ n = ap (λ x. x / size_at class) is ∙ mul-div_cancel n some_size in
-      none (ap (λ x. x % size_at class) is ∙ mul-mod_left n (size_at class)) (subst (HasOut (bits_at t.slots.items key.minor) class) (sym place) p.out))
+      let some : 0 < size = omega (arith, (size_bounds class (omega arith)).0) in
+      let is : offset ≡ n * size = (let e : offset ≡ n * size_at class = omega arith in e ∙ ap (λ s. n * s) (sym of_class)) in
+      none (ap (λ x. x % size) is ∙ mul-mod_left n size) (subst (HasOut (bits_at t.slots.items key.minor) class) (sym (ap (λ x. x / size) is ∙ mul-div_cancel n some)) p.out))
 
 -- where no slab begins at the page of an address or below, no region stands there
 pub pages_far : (t : Table) → IsSlabTable t → (class addr : ℕ) → ((k : Key) → Contains t.firsts.keys k → addr / 4096 + 1 ≤ k.major) → (k : Key) (n : ℕ) → IsOutAt t class addr k n → ⊥
@@ -210,11 +181,8 @@ module _ (t : Table) (i : IsSlabTable t) (addr : ℕ) (key : Key) where
       cc)
 
   -- a region that is out is what begins at its address
-  pub starts : (n : ℕ) → IsOutAt t class addr key n → Contains (regions_in t) (slab_region t.slots.items t.holders key n)
-  starts n o = out_has t.slots.items t.holders t.firsts.keys _ key n (record { there = o.there; low = o.out.inside; out = o.out.out; is = refl })
+  pub found_there : (n : ℕ) → IsOutAt t class addr key n → find (starts_at addr) (regions_in t) ≡ Some (slab_region t.slots.items t.holders key n)
+  found_there n o = ap (λ a. find (starts_at a) (regions_in t)) (sym o.at) ∙ found_out t.slots.items t.holders t.firsts.keys i.ascending i.kept _ key n (record { there = o.there; low = o.out.inside; out = o.out.out; is = refl })
 
   pub some_starts : (n : ℕ) → IsOutAt t class addr key n → true ≡ list_any (starts_at addr) (regions_in t)
-  some_starts n o = sym (any_has (starts_at addr) (regions_in t) _ (starts n o) (eq-eqb _ addr o.at))
-
-  pub found_there : (n : ℕ) → IsOutAt t class addr key n → find (starts_at addr) (regions_in t) ≡ Some (slab_region t.slots.items t.holders key n)
-  found_there n o = ap (λ a. find (starts_at a) (regions_in t)) (sym o.at) ∙ member_found addr_of (regions_in t) _ (regions_rise t.slots.items t.holders t.firsts.keys i.ascending i.kept) (starts n o)
+  some_starts n o = sym (ap is_some (found_there n o)) ∙ is_some_find (starts_at addr) (regions_in t)

@@ -1,5 +1,5 @@
 -- The lowest keys of a set, as a key comes or goes.
-use Rattle.bin_book.proofs.Words.{◌≡◌, ◌≢◌, ℕ, ◌*◌, ◌<◌, ◌/◌, ◌≤◌, true, false, List, [], ◌∷◌, find, get_or, set, length, Option, Some, None, ◌⊎◌, inl, inr, refl, sym, ap, ◌∙◌, subst, arith, Contains, Less, MatchOption, IsStrictlySortedBy, cases_eq, cases_lt, get_or-set_other, get_or-set_same, Key, IsAscending, is_from, key_cmp, with_key, without_key, with_from, with_keeps, with_self, without_from, without_keeps, contains_cases, first_of, less_parts, start, start_from, every_member, AreLowest, IsLeast, IsLowest, found}
+use Rattle.bin_book.proofs.Words.{◌≡◌, ◌≢◌, ℕ, ◌*◌, ◌<◌, ◌/◌, ◌≤◌, true, false, List, [], ◌∷◌, find, get_or, set, length, Option, Some, None, ◌⊎◌, inl, inr, refl, sym, ap, subst, arith, Contains, Less, MatchOption, IsStrictlySortedBy, cases_eq, get_or-set_other, get_or-set_same, Key, IsAscending, is_from, key_cmp, with_key, without_key, with_from, with_keeps, with_self, without_from, without_keeps, contains_cases, first_of, less_parts, start, start_from, every_member, AreLowest, IsLeast, IsLowest, found}
 
 -- the first key from a start on is below each other one from there on
 least : (ks : List Key) (first y x : Key) → IsAscending ks → find (is_from first) ks ≡ Some y → Contains ks x → is_from first x ≡ true → (y ≡ x) ⊎ (key_cmp y x ≡ Less)
@@ -9,14 +9,10 @@ least (k ∷ ks) first y x s e m t = grind (arith, least ks first y x, every_mem
 
 -- no key is found from the start of a number on, or one of a later number
 pub none_lowest : (keys : List Key) (major : ℕ) → IsAscending keys → find (is_from (start major)) keys ≡ None → (k : Key) → Contains keys k → k.major ≢ major
-none_lowest keys major s e k m at = let p = first_of keys major k s m at in let no : None ≡ Some p.0 = sym e ∙ p.1 in cc
+none_lowest keys major s e k m at = grind (arith, first_of keys major k s m at, e)
 
 pub later_lowest : (keys : List Key) (major : ℕ) (first : Key) → IsAscending keys → find (is_from (start major)) keys ≡ Some first → first.major ≢ major → (k : Key) → Contains keys k → k.major ≢ major
-later_lowest keys major first s e other k m at =
-    let p = first_of keys major k s m at in
-    let one : Some first ≡ Some p.0 = sym e ∙ p.1 in
-    let same : first ≡ p.0 = cc in
-    other (ap (λ (k : Key). k.major) same ∙ p.3)
+later_lowest keys major first s e other k m at = grind (arith, first_of keys major k s m at, e, other)
 
 -- the first key of the number
 pub first_lowest : (keys : List Key) (major : ℕ) (first : Key) → IsAscending keys → find (is_from (start major)) keys ≡ Some first → first.major ≡ major → IsLeast keys major first
@@ -28,34 +24,17 @@ first_lowest keys major first s e at = record {
 
 -- the lowest key stays as another one comes that isn't lower
 lowest_with : (keys : List Key) (key : Key) (major : ℕ) (o : Option Key) → IsLowest keys major o → (key.major ≡ major → (f : Key) × (o ≡ Some f) × (f.minor ≤ key.minor)) → IsLowest (with_key keys key) major o
-lowest_with keys key major None i higher = λ k m at. elim (with_from keys key k m) [
-  | inl e ↦ let p = higher (ap (λ (k : Key). k.major) (sym e) ∙ at) in absurd (let no : None ≡ Some p.0 = p.1 in cc)
-  | inr d ↦ i k d at
-]
+lowest_with keys key major None i higher = λ k m at. grind (arith, with_from keys key k m, i k, at, higher)
 lowest_with keys key major (Some f) i higher = record {
   there = with_keeps keys key f i.there;
   at = i.at;
-  least = λ k m at. elim (with_from keys key k m) [
-    | inl e ↦
-        let p = higher (ap (λ (k : Key). k.major) (sym e) ∙ at) in
-        let same : f ≡ p.0 = cc in
-        let low : f.minor ≤ key.minor = rw same p.2 in
-        rw e low
-    | inr d ↦ i.least k d at
-  ];
+  least = λ k m at. grind (arith, with_from keys key k m, i.least k, at, higher);
 }
 
 -- a lower one takes its place
 lowest_new : (keys : List Key) (key : Key) (o : Option Key) → IsLowest keys key.major o → ((f : Key) → o ≡ Some f → key.minor ≤ f.minor) → IsLeast (with_key keys key) key.major key
-lowest_new keys key o i lower = record {
-  there = with_self keys key;
-  at = refl;
-  least = λ k m at. elim (with_from keys key k m) [ inl e ↦ rw e (omega arith) | inr d ↦ by o i lower k d at ];
-}
-  where
-    by : (o : Option Key) → IsLowest keys key.major o → ((f : Key) → o ≡ Some f → key.minor ≤ f.minor) → (k : Key) → Contains keys k → k.major ≡ key.major → key.minor ≤ k.minor
-    by None i lower k d at = absurd (i k d at)
-    by (Some f) i lower k d at = let a = lower f refl in let b = i.least k d at in omega arith
+lowest_new keys key None i lower = record { there = with_self keys key; at = refl; least = λ k m at. grind (arith, with_from keys key k m, i k, at) }
+lowest_new keys key (Some f) i lower = record { there = with_self keys key; at = refl; least = λ k m at. grind (arith, with_from keys key k m, i.least k, lower f refl, at) }
 
 -- and it stays as another one goes
 lowest_without : (keys : List Key) (key : Key) (major : ℕ) (o : Option Key) → IsLowest keys major o → o ≢ Some key → IsLowest (without_key keys key) major o
@@ -77,17 +56,14 @@ module _ (keys : List Key) (key : Key) (lows : List (Option Key)) (i : AreLowest
 
   pub still : get_or lows (key.major / 2) None ≢ Some key → AreLowest (without_key keys key) lows
   still other c low = lowest_without keys key (2 * c) (get_or lows c None) (i c low) (λ e.
-      let at : key.major ≡ 2 * c = (subst (IsLowest keys (2 * c)) e (i c low)).at in
-      let same : c ≡ key.major / 2 = omega arith in
-      other (subst (λ n. get_or lows n None ≡ Some key) same e))
+      let at = (subst (IsLowest keys (2 * c)) e (i c low)).at in
+      other (subst (λ n. get_or lows n None ≡ Some key) (omega arith) e))
 
   module _ (class : ℕ) (small : class < 36) (len : length lows ≡ 36) where
     -- where one class has another lowest key
     one_changed : (after : List Key) (o : Option Key) → IsLowest after (2 * class) o → ((c : ℕ) → c < 36 → c ≢ class → IsLowest after (2 * c) (get_or lows c None)) → AreLowest after (set lows class o)
     one_changed after o here others c low = elim (cases_eq c class) [
-      | inl e ↦
-          let same : get_or (set lows class o) c None ≡ o = ap (λ n. get_or (set lows class o) n None) e ∙ get_or-set_same lows class o None (omega arith) in
-          subst (IsLowest after (2 * c)) (sym same) (subst (λ n. IsLowest after (2 * n) o) (sym e) here)
+      | inl e ↦ rw (e, get_or-set_same lows class o None (omega arith)) here
       | inr ne ↦ subst (IsLowest after (2 * c)) (sym (get_or-set_other lows class c o None ne)) (others c low ne)
     ]
 
@@ -105,4 +81,4 @@ module _ (keys : List Key) (key : Key) (lows : List (Option Key)) (i : AreLowest
 -- a key that isn't lower than the kept one
 pub not_lower : (key : Key) (o : Option Key) → MatchOption o (false ≡ true) (λ f. (false ≡ true → key.minor < f.minor) × (key.minor < f.minor → false ≡ true)) → (f : Key) × (o ≡ Some f) × (f.minor ≤ key.minor)
 not_lower key None p = absurd (cc)
-not_lower key (Some f) p = (f, refl, elim (cases_lt key.minor f.minor) [ inl l ↦ absurd (let no = p.1 l in cc) | inr ge ↦ omega arith ])
+not_lower key (Some f) p = (f, refl, grind (arith, p.1))

@@ -1,5 +1,6 @@
 -- The places of a slab with their addresses, and slabs under their keys, as bits are written.
-use Rattle.bin_book.proofs.Words.{◌≡◌, ℕ, ◌+◌, ◌-◌, ◌*◌, ◌<◌, ◌≤◌, zero, suc, Bool, true, false, not, ◌&&◌, ◌||◌, eqb, List, [], ◌∷◌, length, map, filter, get_or, set, count_by, position, Some, inl, inr, refl, sym, ap, ◌∙◌, arith, ◌≢◌, ◌^◌, ◌⊎◌, subst, Contains, dite, ℕ_discrete, range_with_len, mul-le-mul_right, cases_Bool, cases_eq, eq-eqb, eqb-true, false_from_ne_true, get_or-set_at, get_or-set_other, get_or-set_same, position-Some, length-filter, sum_by-cons, size_at, pages_at, regions_at, size_bounds, slab_filled, filter_from, filter_has, with_from, with_keeps, with_self, without_from, without_keeps, is_among, place, with_free, with_regions_out, ones, slab_of, IsBinned, IsCharted, AreSlabKeys, IsMoved, IsSlabIn, bin_key, bin_of, bits_at, left_of, no_bits, slab_at, any_has, any_none, bit, filter_both, filter_map_is, filter_same, map_has, map_from, range_from, range_has, count_map, count_same, tied_itself, Bits, Key, with_key, without_key, key_tie, key_total, Chart, HasPage}
+use Rattle.bin_book.proofs.Words.{nat_tests, any_map, ◌≡◌, ℕ, ◌+◌, ◌-◌, ◌*◌, ◌++◌, ◌<◌, ◌≤◌, zero, suc, Bool, true, false, not, ◌&&◌, ◌||◌, eqb, List, [], ◌∷◌, length, map, filter, get_or, set, count_by, position, Some, inl, inr, refl, sym, ap, ◌∙◌, arith, ◌≢◌, ◌^◌, ◌⊎◌, subst, Contains, range_with_len, mul-le-mul_right, cases_Bool, cases_eq, eq-eqb, get_or-set_at, get_or-set_other, get_or-set_same, position-Some, length-filter, sum_by-cons, size_at, pages_at, regions_at, size_bounds, slab_filled, filter_from, filter_has, with_from, with_keeps, with_self, without_from, without_keeps, is_among, place, with_free, with_regions_out, ones, slab_of, IsBinned, IsCharted, AreSlabKeys, IsMoved, IsSlabIn, bin_key, bin_of, bits_at, left_of, no_bits, slab_at, any_has, any_none, bit, filter_both, filter_map_is, filter_same, map_has, range_from, range_has, count_map, count_same, tied_itself, Bits, Key, with_key, without_key, key_tie, key_total, Chart, HasPage}
+use Rattle.std.proofs.lemmas.List.Elements.{filter-append}
 
 -- ---- free places, by their numbers
 
@@ -47,11 +48,7 @@ among_ones class first n j bits small low = elim (cases_Bool (get_or bits j fals
   | inl t ↦
       any_has (λ a. eqb a (place class first j)) (map (place class first) (ones n bits)) (place class first j)
       (map_has (place class first) (ones n bits) j (filter_has (λ i. get_or bits i false) (range_with_len 0 n) j (range_has 0 n j (omega arith) (omega arith)) t)) (eq-eqb _ _ refl) ∙ sym t
-  | inr f ↦ any_none (λ a. eqb a (place class first j)) (map (place class first) (ones n bits)) (λ a m.
-      let p = map_from (place class first) (ones n bits) a m in
-      let q = filter_from (λ i. get_or bits i false) (range_with_len 0 n) p.0 p.1 in
-      false_from_ne_true _ (λ e. let is : p.0 ≡ j = same_place class first p.0 j small (p.2 ∙ eqb-true a (place class first j) e) in
-      let no : get_or bits j false ≡ true = ap (λ i. get_or bits i false) (sym is) ∙ q.1 in cc)) ∙ sym f
+  | inr f ↦ any_map (place class first) (λ a. eqb a (place class first j)) (ones n bits) ∙ any_none _ (ones n bits) (λ i m. grind (arith, nat_tests, filter_from (λ i. get_or bits i false) (range_with_len 0 n) i m, same_place class first i j small, f)) ∙ sym f
 ]
 
 -- a slab some of whose places become free
@@ -76,17 +73,13 @@ taken_slab class first addrs old new taken =
     (λ j m. let r = range_from 0 n j m in sym (taken j (omega (arith, r.1)))) in
     λ k. record { class = class; first = first; free = sym (kept ∙ ap (map (place class first)) (both ∙ same)) k }
 
--- the places from one on
-pub run_ones : (bits : List Bool) (start n out : ℕ) → start ≤ out → out ≤ start + n → ((i : ℕ) → start ≤ i → i < out → get_or bits i false ≡ false) → ((i : ℕ) → out ≤ i → i < start + n → get_or bits i false ≡ true)
-    → filter (λ j. get_or bits j false) (range_with_len start n) ≡ range_with_len out (start + n - out)
-run_ones bits start zero out low high before behind = ap (range_with_len out) (let none : 0 ≡ start + 0 - out = omega arith in none)
-run_ones bits start (suc n) out low high before behind = dite (ℕ_discrete start out)
-    (λ is. let t = behind start (omega arith) (omega arith) in
-    let len : start + suc n - out ≡ suc (start + 1 + n - (start + 1)) = omega arith in
-    rw (t, len) (λ k. is k ∷ (run_ones bits (start + 1) n (start + 1) (omega arith) (omega arith) (λ i a b. absurd (omega arith)) (λ i a b. behind i (omega arith) (omega arith)) ∙ ap (λ m. range_with_len m (start + 1 + n - (start + 1))) (ap (λ m. m + 1) is)) k))
-    (λ other. let f = before start (omega arith) (omega arith) in
-    let len : start + suc n - out ≡ start + 1 + n - out = omega arith in
-    rw (f, len) (run_ones bits (start + 1) n out (omega arith) (omega arith) (λ i a b. before i (omega arith) b) (λ i a b. behind i a (omega arith))))
+-- a range in two parts
+range_split : (a m n b : ℕ) → b ≡ a + m → range_with_len a (m + n) ≡ range_with_len a m ++ range_with_len b n
+range_split a zero n b e = grind arith
+range_split a (suc m) n b e = let more : suc m + n ≡ suc (m + n) = omega arith in rw more (grind (arith, range_split (a + 1) m n b))
+
+pub filter_split : (p : ℕ → Bool) (m n : ℕ) → m ≤ n → filter p (range_with_len 0 n) ≡ filter p (range_with_len 0 m) ++ filter p (range_with_len m (n - m))
+filter_split p m n le = let whole : n ≡ m + (n - m) = omega arith in ap (λ k. filter p (range_with_len 0 k)) whole ∙ ap (filter p) (range_split 0 m (n - m) m (omega arith)) ∙ filter-append p (range_with_len 0 m) (range_with_len m (n - m))
 
 -- ---- keys
 
@@ -97,20 +90,13 @@ key_cases a b = grind (arith, key_tie a b, tied_itself key_total a)
 -- a key in place of another one
 pub moved : (old mid new : List Key) (was now : Key) → mid ≡ without_key old was → new ≡ with_key mid now → IsMoved old new was now
 moved old mid new was now first second = record {
-  keeps = λ k m ne. subst (λ ks. Contains ks k) (sym second) (with_keeps mid now k (subst (λ ks. Contains ks k) (sym first) (without_keeps old was k m ne)));
-  now_there = subst (λ ks. Contains ks now) (sym second) (with_self mid now);
-  from = λ k m. elim (with_from mid now k (subst (λ ks. Contains ks k) second m)) [
-    | inl e ↦ inl e
-    | inr d ↦ inr (without_from old was k (subst (λ ks. Contains ks k) first d))
-  ];
+  keeps = λ k m ne. rw (second, first) (with_keeps (without_key old was) now k (without_keeps old was k m ne));
+  now_there = rw second (with_self mid now);
+  from = λ k m. grind (arith, with_from mid now k (rw second at m), without_from old was k, first);
 }
 
 pub unmoved : (keys : List Key) (was now : Key) → was ≡ now → Contains keys was → IsMoved keys keys was now
-unmoved keys was now e m = record {
-  keeps = λ k n ne. n;
-  now_there = subst (Contains keys) e m;
-  from = λ k n. elim (key_cases k was) [ inl s ↦ inl (s ∙ e) | inr ne ↦ inr (n, ne) ];
-}
+unmoved keys was now e m = record { keeps = λ k n ne. n; now_there = subst (Contains keys) e m; from = λ k n. grind (arith, key_cases k was, e, n) }
 
 -- the key of a slab among those of its class tells its key
 pub same_slab : (class d : ℕ) (a b : Bool) (k l : Key) → k.minor < 2 ^ 32 → l.minor < 2 ^ 32 → bin_key class a k ≡ bin_key d b l → k ≡ l
@@ -133,18 +119,12 @@ bits_there slots n m b ne = get_or-set_other slots n m b no_bits ne
 pub one_place : (slots : List Bits) (keys : List Key) → AreSlabKeys slots keys → (k l : Key) → Contains keys k → Contains keys l → (i j : ℕ) → i < regions_at (bits_at slots k.minor).class → j < regions_at (bits_at slots l.minor).class
     → place (bits_at slots k.minor).class k.major i ≡ place (bits_at slots l.minor).class l.major j → (k ≡ l) × (i ≡ j)
 one_place slots keys kept k l m n i j inside within e =
-    let low = place_inside (bits_at slots l.minor).class l.major j (kept.slab l n).small within in
-    let high = place_inside (bits_at slots k.minor).class k.major i (kept.slab k m).small inside in
-    same (grind (arith, kept.apart l k n m, kept.apart k l m n, low, high, some_size k m, some_size l n, e))
-  where
-    some_size : (k : Key) → Contains keys k → 0 < size_at (bits_at slots k.minor).class
-    some_size k m = let s = (kept.slab k m).small in let size = (size_bounds (bits_at slots k.minor).class (omega arith)).0 in omega arith
-
-    same : k ≡ l → (k ≡ l) × (i ≡ j)
-    same s =
-        let c = (bits_at slots k.minor).class in
-        let there : place c k.major i ≡ place c k.major j = e ∙ sym (ap (λ (z : Key). place (bits_at slots z.minor).class z.major j) s) in
-        (s, same_place c k.major i j (kept.slab k m).small there)
+    let small = (kept.slab k m).small in
+    let small' = (kept.slab l n).small in
+    let low = place_inside (bits_at slots l.minor).class l.major j small' within in
+    let high = place_inside (bits_at slots k.minor).class k.major i small inside in
+    let same : k ≡ l = grind (arith, kept.apart l k n m, kept.apart k l m n, low, high, size_bounds (bits_at slots k.minor).class, size_bounds (bits_at slots l.minor).class, e) in
+    (same, same_place (bits_at slots k.minor).class k.major i j small (e ∙ sym (ap (λ (z : Key). place (bits_at slots z.minor).class z.major j) same)))
 
 -- ---- a slab whose bits change
 
@@ -204,5 +184,4 @@ module _ (slots : List Bits) (keys : List Key) (kept : AreSlabKeys slots keys) (
   pub bin_absent : (small : (k : Key) → Contains keys k → k.minor < 2 ^ 32) (bins : List Key) → IsBinned slots keys bins → (full : Bool) → bin_key new.class full key ≢ bin_of slots key → Contains bins (bin_key new.class full key) → ⊥
   bin_absent small bins binned full ne m =
       let p = binned.from _ m in
-      let e : p.0 ≡ key = same_slab _ _ _ _ p.0 key (small p.0 p.1) (small key there) p.2 in
-      ne (sym p.2 ∙ ap (bin_of slots) e)
+      ne (sym p.2 ∙ ap (bin_of slots) (same_slab _ _ _ _ p.0 key (small p.0 p.1) (small key there) p.2))

@@ -1,6 +1,10 @@
 -- The regions that are out, by address, and some that land among others.
-use Rattle.bin_book.proofs.Words.{◌≡◌, ℕ, ◌+◌, ◌*◌, ◌<◌, ◌≤◌, zero, suc, Bool, true, false, not, List, [], ◌∷◌, ◌++◌, map, filter, find, get_or, Option, Some, None, inl, inr, refl, sym, ap, ◌∙◌, subst, arith, Contains, Less, ◌⊎◌, flat_map, list_any, range_with_len, IsStrictlySortedBy, mul-le-mul_right, cases_Bool, eq-eqb, Contains-append_cases, Contains-append_left, Contains-append_right, regions_at, size_at, size_bounds, Region, starts_at, landing, region_of, Bits, Key, IsAscending, key_cmp, contains_cases, contains_later, filter_from, filter_has, less_major, every_member, addr_of, place, holder_at, AreSlabKeys, bits_at, out_of, slab_region, out_of_slabs, zeros, IsRising, AreNew, behind_members, not_found, rising_both, Landed, found_member, lands, member_found, rising_distinct, any_has, head, map_from, map_has, map_same, range_from, range_has, option_or}
+use Rattle.bin_book.proofs.Words.{is_some_find, ◌≡◌, ℕ, ◌+◌, ◌*◌, ◌<◌, ◌≤◌, zero, suc, Bool, true, false, not, List, [], ◌∷◌, ◌++◌, map, filter, find, get_or, Some, None, inl, inr, refl, sym, ap, ◌∙◌, subst, arith, Contains, Less, flat_map, list_any, range_with_len, IsStrictlySortedBy, mul-le-mul_right, cases_Bool, Contains-append_cases, Contains-append_left, Contains-append_right, regions_at, size_at, size_bounds, Region, starts_at, landing, Bits, Key, IsAscending, key_cmp, contains_cases, contains_later, filter_from, filter_has, less_major, every_member, addr_of, place, holder_at, AreSlabKeys, bits_at, out_of, slab_region, out_of_slabs, zeros, IsRising, behind_members, rising_both, member_found, head, map_from, map_has, range_from, range_has, inserted, append_assoc, nat_tests, filter_all_of}
 use Rattle.bin_book.proofs.Taking.{less_ne}
+use Rattle.list_facts.proofs.ByKey.{absent_filter, none_behind}
+use Rattle.ordered_set.proofs.Sorted.{every_right}
+use Rattle.std.proofs.lemmas.Grind.{flat_map-append}
+use Rattle.std.proofs.lemmas.List.Elements.{filter-append}
 use Rattle.bin_book.proofs.Places.{place_inside}
 
 -- ---- the regions that are out
@@ -19,8 +23,8 @@ module _ (slots : List Bits) (codes : List ℕ) where
   out_has (k ∷ ks) r key n o = elim (contains_cases k ks key o.there) [
     | inl e ↦
         let b = bits_at slots key.minor in
-        let m = map_has (slab_region slots codes key) (zeros (regions_at b.class) b.free) n (filter_has (λ i. not (get_or b.free i false)) (range_with_len 0 (regions_at b.class)) n (range_has 0 (regions_at b.class) n (omega arith) (let low = o.low in omega arith)) (ap not o.out)) in
-        Contains-append_left (out_of slots codes k) (flat_map (out_of slots codes) ks) r (subst (λ x. Contains (out_of slots codes k) x) o.is (subst (λ z. Contains (out_of slots codes z) (slab_region slots codes key n)) (sym e) m))
+        let m = map_has (slab_region slots codes key) (zeros (regions_at b.class) b.free) n (filter_has (λ i. not (get_or b.free i false)) (range_with_len 0 (regions_at b.class)) n (range_has 0 (regions_at b.class) n (omega arith) (omega (arith, o.low))) (ap not o.out)) in
+        Contains-append_left (out_of slots codes k) (flat_map (out_of slots codes) ks) r (rw e (subst (Contains (out_of slots codes key)) o.is m))
     | inr d ↦ Contains-append_right (out_of slots codes k) (flat_map (out_of slots codes) ks) r (out_has ks r key n (record { there = d; low = o.low; out = o.out; is = o.is }))
   ]
 
@@ -29,9 +33,7 @@ module _ (slots : List Bits) (codes : List ℕ) where
       let b = bits_at slots key.minor in
       let p = map_from (slab_region slots codes key) (zeros (regions_at b.class) b.free) r m in
       let q = filter_from (λ i. not (get_or b.free i false)) (range_with_len 0 (regions_at b.class)) p.0 p.1 in
-      let low = range_from 0 (regions_at b.class) p.0 q.0 in
-      let out : get_or b.free p.0 false ≡ false = grind (arith, q.1) in
-      (p.0, record { there = head key []; low = omega (arith, low.1); out = out; is = p.2 })
+      (p.0, record { there = head key []; low = omega (arith, (range_from 0 (regions_at b.class) p.0 q.0).1); out = grind (arith, q.1); is = p.2 })
 
   pub out_from : (keys : List Key) (r : Region) → Contains (out_of_slabs slots codes keys) r → (key : Key) × (n : ℕ) × IsOutRegion slots codes keys r key n
   unfolding out_of_slabs
@@ -84,66 +86,75 @@ module _ (slots : List Bits) (codes : List ℕ) where
       let size = (size_bounds b.class (omega arith)).0 in
       grind (arith, kept.apart k q.0 (head k ks) (contains_later k ks q.0 q.2.there) (less_major k q.0 less), less_ne k q.0 less, at, at', inside, size))
 
+-- a region that is out is what begins at its address
+pub found_out : (slots : List Bits) (codes : List ℕ) (keys : List Key) → IsAscending keys → AreSlabKeys slots keys → (r : Region) (key : Key) (n : ℕ) → IsOutRegion slots codes keys r key n → find (starts_at r.addr) (out_of_slabs slots codes keys) ≡ Some r
+found_out slots codes keys ascending kept r key n o = member_found addr_of (out_of_slabs slots codes keys) r (regions_rise slots codes keys ascending kept) (out_has slots codes keys r key n o)
+
 -- no slabs have no regions
 pub no_regions : (slots : List Bits) (codes : List ℕ) (keys : List Key) → keys ≡ [] → out_of_slabs slots codes keys ≡ []
 unfolding out_of_slabs
 no_regions slots codes keys e = ap (flat_map (out_of slots codes)) e
 
--- slots and codes that say the same have the same regions
+-- two lists made from one are the same as far as a test passes, where each thing that passes is the same in both
+kept_same : {X Y : Type 0} (pass : Y → Bool) (f g : X → Y) (p q : X → Bool) (xs : List X) → ((x : X) → Contains xs x → (pass (f x) ≡ pass (g x)) × (pass (g x) ≡ true → (p x ≡ q x) × (f x ≡ g x))) → filter pass (map f (filter p xs)) ≡ filter pass (map g (filter q xs))
+kept_same pass f g p q [] same = refl
+kept_same pass f g p q (x ∷ xs) same = grind (arith, same x (head x xs), kept_same pass f g p q xs (λ y m. same y (contains_later x xs y m)))
+
+-- slots and codes that say the same of the places whose addresses pass a test have the same regions there
+pub regions_agree_at : (pass : ℕ → Bool) (old new : List Bits) (codes news : List ℕ) (keys : List Key) → ((k : Key) → Contains keys k → (bits_at new k.minor).class ≡ (bits_at old k.minor).class)
+    → ((k : Key) (n : ℕ) → Contains keys k → n < regions_at (bits_at old k.minor).class → pass (place (bits_at old k.minor).class k.major n) ≡ true → (get_or (bits_at new k.minor).free n false ≡ get_or (bits_at old k.minor).free n false) × (holder_at news (512 * k.minor + n) ≡ holder_at codes (512 * k.minor + n)))
+    → filter (λ r. pass r.addr) (out_of_slabs new news keys) ≡ filter (λ r. pass r.addr) (out_of_slabs old codes keys)
+unfolding out_of_slabs
+regions_agree_at pass old new codes news [] class same = refl
+regions_agree_at pass old new codes news (k ∷ ks) class same =
+    let p = λ (r : Region). pass r.addr in
+    let c = class k (head k ks) in
+    let regions = regions_at (bits_at old k.minor).class in
+    let one : filter p (out_of new news k) ≡ filter p (out_of old codes k) = ap (λ d. filter p (map (slab_region new news k) (zeros (regions_at d) (bits_at new k.minor).free))) c ∙ kept_same p (slab_region new news k) (slab_region old codes k) _ _ (range_with_len 0 regions) (λ n m. (
+      ap (λ d. pass (place d k.major n)) c,
+      λ t. let here = same k n (head k ks) (omega (arith, (range_from 0 regions n m).1)) t in (ap not here.0, λ x. record { addr = place (c x) k.major n; class = c x; holder = here.1 x }),
+    )) in
+    let all = regions_agree_at pass old new codes news ks (λ l m. class l (contains_later k ks l m)) (λ l n m. same l n (contains_later k ks l m)) in
+    filter-append p (out_of new news k) _ ∙ (λ x. one x ++ all x) ∙ sym (filter-append p (out_of old codes k) _)
+
+-- those that say the same of all places have the same regions
 pub regions_agree : (old new : List Bits) (codes news : List ℕ) (keys : List Key) → ((k : Key) → Contains keys k → bits_at new k.minor ≡ bits_at old k.minor)
     → ((k : Key) (n : ℕ) → Contains keys k → n < regions_at (bits_at old k.minor).class → holder_at news (512 * k.minor + n) ≡ holder_at codes (512 * k.minor + n)) → out_of_slabs new news keys ≡ out_of_slabs old codes keys
+regions_agree old new codes news keys bits holders = sym (filter_all_of (λ r. true) (out_of_slabs new news keys) (λ r m. refl))
+    ∙ regions_agree_at (λ a. true) old new codes news keys (λ k m. ap (λ (b : Bits). b.class) (bits k m)) (λ k n m low t. (ap (λ (b : Bits). get_or b.free n false) (bits k m), holders k n m low))
+    ∙ filter_all_of (λ r. true) (out_of_slabs old codes keys) (λ r m. refl)
+
+-- the regions of the slabs of two lists
+pub regions_both : (slots : List Bits) (codes : List ℕ) (ks ls : List Key) → out_of_slabs slots codes (ks ++ ls) ≡ out_of_slabs slots codes ks ++ out_of_slabs slots codes ls
 unfolding out_of_slabs
-regions_agree old new codes news [] bits holders = refl
-regions_agree old new codes news (k ∷ ks) bits holders =
-    let all = regions_agree old new codes news ks (λ l m. bits l (contains_later k ks l m)) (λ l n m. holders l n (contains_later k ks l m)) in
-    let b = bits_at old k.minor in
-    let same = bits k (head k ks) in
-    let first : out_of new news k ≡ out_of old news k = (λ x. map (λ i. record { addr = place (same x).class k.major i; class = (same x).class; holder = holder_at news (512 * k.minor + i) }) (zeros (regions_at (same x).class) (same x).free)) in
-    let second : out_of old news k ≡ out_of old codes k = map_same (slab_region old news k) (slab_region old codes k) (zeros (regions_at b.class) b.free) (λ n m.
-    let low = (range_from 0 (regions_at b.class) n (filter_from (λ i. not (get_or b.free i false)) (range_with_len 0 (regions_at b.class)) n m).0).1 in
-    let held = holders k n (head k ks) (omega arith) in
-    λ x. record { addr = place b.class k.major n; class = b.class; holder = held x }) in
-    λ x. (first ∙ second) x ++ all x
+regions_both slots codes ks ls = flat_map-append (out_of slots codes) ks ls
+
+pub regions_first : (slots : List Bits) (codes : List ℕ) (key : Key) (ks : List Key) → out_of_slabs slots codes (key ∷ ks) ≡ out_of slots codes key ++ out_of_slabs slots codes ks
+unfolding out_of_slabs
+regions_first slots codes key ks = refl
 
 -- nothing is found where no region passes the test
 pub none_passes : (rs : List Region) (a : ℕ) → false ≡ list_any (starts_at a) rs → None ≡ find (starts_at a) rs
-none_passes rs a e = sym (not_found addr_of rs a (λ r m at. let yes = any_has (starts_at a) rs r m (eq-eqb r.addr a at) in let no : false ≡ true = e ∙ yes in cc))
+none_passes rs a e = grind (arith, is_some_find (starts_at a) rs, e)
 
--- regions of a class, one behind the other
-pub from_rises : (client class addr start n : ℕ) → 1 ≤ size_at class → IsRising addr_of (map (λ i. region_of client class (addr + i * size_at class)) (range_with_len start n))
-from_rises client class addr start zero some = tt
-from_rises client class addr start (suc n) some = (
-  behind_members addr_of _ _ (λ r m.
-      let q = map_from (λ i. region_of client class (addr + i * size_at class)) (range_with_len (start + 1) n) r m in
-      let low = (range_from (start + 1) n q.0 q.1).0 in
-      let more : (start + 1) * size_at class ≤ q.0 * size_at class = mul-le-mul_right (size_at class) low in
-      let at : addr + q.0 * size_at class ≡ r.addr = ap (λ (x : Region). x.addr) q.2 in
-      omega arith),
-  from_rises client class addr (start + 1) n some,
-)
+-- ---- regions between others
 
-module _ (come rs : List Region) (coming : IsRising addr_of come) (rising : IsRising addr_of rs) (new : AreNew addr_of come rs) where
-  pub landed : Landed addr_of come rs
-  landed = lands addr_of come rs (rising_distinct addr_of come coming) rising new
+-- a region that comes stands behind those below it
+inserted_later : (r x : Region) (rs : List Region) → x.addr < r.addr → inserted r (x ∷ rs) ≡ x ∷ inserted r rs
+inserted_later r x rs l = grind (arith, nat_tests)
 
-  pub landed_new : (r : Region) → Contains come r → Contains (landing come rs) r
-  landed_new r m = (found_member addr_of (landing come rs) r.addr r (landed.finds r.addr ∙ ap (λ o. option_or o (find (starts_at r.addr) rs)) (member_found addr_of come r coming m))).0
+inserted_between : (xs rest zs : List Region) (r : Region) → IsRising addr_of (xs ++ r ∷ (rest ++ zs)) → inserted r (xs ++ zs) ≡ xs ++ r ∷ zs
+inserted_between [] rest [] r rising = refl
+inserted_between [] rest (z ∷ zs) r rising = grind (arith, nat_tests, every_right (λ (q : Region). r.addr < q.addr) rest (z ∷ zs) rising.0)
+inserted_between (x ∷ xs) rest zs r rising = inserted_later r x (xs ++ zs) (every_right (λ (q : Region). x.addr < q.addr) xs (r ∷ (rest ++ zs)) rising.0).0 ∙ ap (λ rs. x ∷ rs) (inserted_between xs rest zs r rising.1)
 
-  pub landed_old : (r : Region) → Contains rs r → Contains (landing come rs) r
-  landed_old r m =
-      let here = member_found addr_of rs r rising m in
-      let none = not_found addr_of come r.addr (λ q n at.
-      let free = every_member (λ (x : Region). find (starts_at x.addr) rs ≡ None) come new q n in
-      let no : None ≡ Some r = sym free ∙ ap (λ a. find (starts_at a) rs) at ∙ here in
-      cc) in
-      (found_member addr_of (landing come rs) r.addr r (landed.finds r.addr ∙ ap (λ o. option_or o (find (starts_at r.addr) rs)) none ∙ here)).0
+pub landing_between : (xs ys zs : List Region) → IsRising addr_of (xs ++ (ys ++ zs)) → landing ys (xs ++ zs) ≡ xs ++ (ys ++ zs)
+landing_between xs [] zs rising = refl
+landing_between xs (y ∷ ys) zs rising =
+    let one = append_assoc xs (y ∷ []) in
+    ap (landing ys) (inserted_between xs ys zs y rising ∙ sym (one zs)) ∙ landing_between (xs ++ y ∷ []) ys zs (subst (IsRising addr_of) (sym (one (ys ++ zs))) rising) ∙ one (ys ++ zs)
 
-  pub landed_from : (r : Region) → Contains (landing come rs) r → Contains come r ⊎ Contains rs r
-  landed_from r m = by (find (starts_at r.addr) come) refl
-    where
-      all : option_or (find (starts_at r.addr) come) (find (starts_at r.addr) rs) ≡ Some r
-      all = sym (landed.finds r.addr) ∙ member_found addr_of (landing come rs) r landed.rising m
-
-      by : (o : Option Region) → find (starts_at r.addr) come ≡ o → Contains come r ⊎ Contains rs r
-      by (Some q) e = inl (found_member addr_of come r.addr r (e ∙ sym (ap (λ o. option_or o (find (starts_at r.addr) rs)) e) ∙ all)).0
-      by None e = inr (found_member addr_of rs r.addr r (sym (ap (λ o. option_or o (find (starts_at r.addr) rs)) e) ∙ all)).0
+-- and one that goes leaves the others
+pub left_between : (xs zs : List Region) (r : Region) → IsRising addr_of (xs ++ r ∷ zs) → filter (λ q. not (starts_at r.addr q)) (xs ++ r ∷ zs) ≡ xs ++ zs
+left_between [] zs r rising = grind (arith, nat_tests, absent_filter addr_of r.addr zs (none_behind addr_of r.addr r.addr zs (omega arith) rising.0))
+left_between (x ∷ xs) zs r rising = grind (arith, nat_tests, every_right (λ (q : Region). x.addr < q.addr) xs (r ∷ zs) rising.0, left_between xs zs r rising.1)

@@ -1,5 +1,6 @@
 -- The lowest slab with a free region, a region that is taken out of it or put back, and a slab that leaves.
-use Rattle.bin_book.proofs.Words.{◌≡◌, ◌≢◌, ℕ, ◌+◌, ◌*◌, ◌^◌, ◌<◌, Bool, true, false, eqb, List, [], ◌∷◌, ◌++◌, length, length-append, map, get_or, Option, Some, None, inl, inr, refl, sym, ap, ◌∙◌, subst, arith, Contains, Less, Equal, vec_len, is_some, IfNone, IfSome, ◌≤◌, suc, ltb, length-set, set, count_by, position, vec_capacity, IsSome, not, filter, is_eq, IsStrictlySortedBy, cases_Bool, cases_eq, cases_lt, eq-eqb, eqb-true, false_from_ne_true, get_or-set_at, nat_tests, tied_itself, get_or_read_under, length-map, get_or-set_other, Key, IsAscending, key_cmp, KeySet, is_other, without_key, key_total, contains_cases, contains_later, other_from, without_from, less_major, every_member, Bits, regions_at, Table, free_of, place, BinSlab, with_free, with_regions_out, is_all_free, IsLeast, IsLowestOpen, IsSlabTable, bin_of, bits_at, left_of, no_bits, ones, slab_at, slabs_in, IsMoved, IsOutAt, IsSlabIn, bin_key, slab_of, slabs_without, head, bit, map_both, map_same, any_has, any_map, any_none, filter_all_of, filter_map_is, filter_same, map_from, map_has, position_or_len, list_any, position-Some, pages_bounds, slab_filled, fails_before_first, sum_by-cons, sum_by-set}
+use Rattle.bin_book.proofs.Words.{◌≡◌, ◌≢◌, ℕ, ◌+◌, ◌*◌, ◌^◌, ◌<◌, Bool, true, false, eqb, List, [], ◌∷◌, length, length-append, map, get_or, Option, Some, None, inl, inr, refl, sym, ap, ◌∙◌, subst, arith, Contains, Less, Equal, vec_len, is_some, IfNone, IfSome, ◌≤◌, ltb, length-set, set, count_by, position, IsSome, not, filter, is_eq, IsStrictlySortedBy, cases_eq, cases_lt, eqb-true, false_from_ne_true, get_or-set_at, nat_tests, tied_itself, get_or_read_under, length-map, get_or-set_other, Key, IsAscending, key_cmp, KeySet, is_other, without_key, key_total, contains_cases, contains_later, other_from, without_from, less_major, every_member, Bits, regions_at, Table, free_of, place, BinSlab, with_free, with_regions_out, is_all_free, IsLeast, IsLowestOpen, IsSlabTable, AreCounts, bin_of, bits_at, left_of, no_bits, ones, slab_at, slabs_in, IsMoved, IsOutAt, IsSlabIn, bin_key, slab_of, slabs_without, head, bit, map_both, map_same, any_has, any_map, any_none, filter_all_of, filter_map_is, filter_same, map_from, map_has, position_or_len, list_any, position-Some, pages_bounds, slab_filled, fails_before_first, count_none, sum_by-set}
+use Rattle.std.proofs.Common.{rules}
 use Rattle.bin_book.proofs.Places.{length_ones, freed_slab, lowest_one, same_place, taken_slab, binned_changed, charted_changed, by_key, counts_stay, is_new, kept_changed, one_place, others_stay, key_cases}
 
 -- a key below another one is another one
@@ -47,48 +48,31 @@ found_open t i class bin key b minor low =
     let minors : p.0.major * 2 ^ 32 + p.0.minor ≡ bin.minor = ap (λ (k : Key). k.minor) p.2 in
     let first : p.0.major ≡ key.major = omega arith in
     let second : p.0.minor ≡ key.minor = omega arith in
-    let is : p.0 ≡ key = (λ k. record { major = first k; minor = second k }) in
     let majors : (bin_of t.slots.items p.0).major ≡ 2 * class = ap (λ (k : Key). k.major) p.2 ∙ b.at in
-    subst (IsLowestOpen t class) is (elim (cases_Bool (eqb (left_of (bits_at t.slots.items p.0.minor)) 0)) [
-      | inl full ↦ absurd (let odd : 2 * (bits_at t.slots.items p.0.minor).class + 1 ≡ 2 * class = rw full at majors in omega arith)
-      | inr some ↦
-          let even : 2 * (bits_at t.slots.items p.0.minor).class + 0 ≡ 2 * class = rw some at majors in
-          record {
-            there = p.1;
-            of_class = omega arith;
-            some_free = grind (arith, nat_tests);
-            lowest = λ k m c free.
-                let above = b.least (bin_of t.slots.items k) (i.binned.has k m) (open_key t class k c free) in
-                let fits = small_numbers t i k m in
-                omega arith;
-          }
-    ])
+    subst (IsLowestOpen t class) (λ k. record { major = first k; minor = second k }) (record {
+      there = p.1;
+      of_class = grind (arith, nat_tests);
+      some_free = grind (arith, nat_tests);
+      lowest = λ k m c free. omega (arith, b.least (bin_of t.slots.items k) (i.binned.has k m) (open_key t class k c free), small_numbers t i k m);
+    })
 
--- lists that are nothing together
-tail_nil : (xs ys : List ℕ) → xs ++ ys ≡ [] → ys ≡ []
-tail_nil [] ys e = e
-tail_nil (x ∷ xs) ys e = absurd (let l : length (x ∷ (xs ++ ys)) ≡ 0 = ap length e in omega arith)
+-- the free regions of a slab are among those of its class
+free_has : (slots : List Bits) (class : ℕ) (keys : List Key) (key : Key) → Contains keys key → (bits_at slots key.minor).class ≡ class → length (slab_at slots key).free ≤ length (free_of class (map (slab_at slots) keys))
+free_has slots class [] key m e = absurd (omega arith)
+free_has slots class (k ∷ ks) key m e = grind (arith, nat_tests, contains_cases k ks key m, free_has slots class ks key, e, length-append (slab_at slots k).free (free_of class (map (slab_at slots) ks)))
 
 -- and its class has a free region
 pub some_open : (t : Table) → IsSlabTable t → (class : ℕ) (key : Key) → IsLowestOpen t class key → free_of class (slabs_in t) ≡ [] → ⊥
 unfolding slabs_in
-some_open t i class key o none = by t.firsts.keys o.there none
-  where
-    by : (ks : List Key) → Contains ks key → free_of class (map (slab_at t.slots.items) ks) ≡ [] → ⊥
-    by [] m e = omega arith
-    by (k ∷ ks) m e = elim (contains_cases k ks key m) [
-      | inl is ↦
-          let many = length-map (ones (regions_at (bits_at t.slots.items key.minor).class) (bits_at t.slots.items key.minor).free) (place (bits_at t.slots.items key.minor).class key.major) ∙ length_free t i key o.there in
-          let none : length ((slab_at t.slots.items key).free ++ free_of class (map (slab_at t.slots.items) ks)) ≡ 0 = grind (arith, nat_tests, is, e, o.of_class) in
-          omega (arith, length-append (slab_at t.slots.items key).free (free_of class (map (slab_at t.slots.items) ks)), many, o.some_free)
-      | inr d ↦ by ks d (grind (arith, nat_tests, tail_nil, e))
-    ]
+some_open t i class key o none =
+    let bits = bits_at t.slots.items key.minor in
+    omega (arith, free_has t.slots.items class t.firsts.keys key o.there o.of_class, ap length none, length-map (ones (regions_at bits.class) bits.free) (place bits.class key.major), length_free t i key o.there, o.some_free)
 
 -- so what is found tells whether a region is free
 pub free_told : (t : Table) → IsSlabTable t → (class : ℕ) (r : Option Key) (told : Bool) (free : List ℕ) → free_of class (slabs_in t) ≡ free → told ≡ is_some r → IfNone r (free_of class (slabs_in t) ≡ []) → IfSome r (λ key. IsLowestOpen t class key)
     → (told ≡ true → free ≡ [] → ⊥) × ((free ≡ [] → ⊥) → told ≡ true)
-free_told t i class None told free e is none some = ((λ yes nothing. let no : false ≡ true = sym is ∙ yes in cc), (λ more. absurd (more (sym e ∙ none))))
-free_told t i class (Some key) told free e is none some = ((λ yes nothing. some_open t i class key some (e ∙ nothing)), (λ more. is))
+free_told t i class None told free e is none some = (grind arith, grind (arith, e, none, is))
+free_told t i class (Some key) told free e is none some = (grind (arith, some_open t i class key some, e), grind (arith, is))
 
 -- the bits with one written
 abbrev pub with_bit : Bits → ℕ → Bool → Bits
@@ -98,33 +82,20 @@ with_bit b i v = record { class = b.class; free = set b.free i v }
 pub some_position : (bits : List Bool) → 0 < count_by (λ b. b) bits → IsSome (position (λ b. b) bits)
 some_position bits some = elim (cases_lt (position_or_len (λ b. b) bits) (length bits)) [
   | inl lt ↦ let t : ltb (position_or_len (λ b. b) bits) (length bits) ≡ true = grind (arith, nat_tests) in rw t refl
-  | inr ge ↦ absurd (let none = zeros bits (λ k l. fails_before_first (λ b. b) bits k false (omega arith)) in omega arith)
+  | inr ge ↦ absurd (let none = count_none (λ b. b) bits (λ b (k, l, e). let no = fails_before_first (λ b. b) bits k b (omega arith) in cc) in omega arith)
 ]
-  where
-    zeros : (bits : List Bool) → ((k : ℕ) → k < length bits → get_or bits k false ≡ false) → count_by (λ b. b) bits ≡ 0
-    zeros [] none = refl
-    zeros (b ∷ bits) none =
-        let here : bit b ≡ 0 = ap bit (none 0 (omega arith)) in
-        omega (arith, sum_by-cons (λ b. bit b) b bits, zeros bits (λ k l. none (suc k) (omega arith)))
 
 -- the bits that were read and those after the lowest free region was taken
 pub taken_bits : (bits read new : Bits) (r : Option ℕ) (n : ℕ) → read ≡ bits → r ≡ Some n → r ≡ position (λ b. b) read.free → IfSome r (λ i. i < regions_at read.class) → IfSome r (λ i. new ≡ record { class = read.class; free = set read.free i false })
     → (position (λ b. b) bits.free ≡ Some n) × (n < regions_at bits.class) × (new ≡ with_bit bits n false)
-taken_bits bits read new r n e some is inside taken = (
-  ap (λ (b : Bits). position (λ b. b) b.free) (sym e) ∙ sym is ∙ some,
-  subst (λ (b : Bits). n < regions_at b.class) e (subst (λ o. IfSome o (λ i. i < regions_at read.class)) some inside),
-  subst (λ o. IfSome o (λ i. new ≡ record { class = read.class; free = set read.free i false })) some taken ∙ ap (λ (b : Bits). with_bit b n false) e,
-)
+taken_bits bits read new r n e some is inside taken = grind (arith, e, some, is, inside, taken)
 
 -- a slab of which one bit is written, as long as a region of it is out
 pub bit_written : (bits : Bits) (first i : ℕ) (v : Bool) → IsSlabIn bits first → i < regions_at bits.class → count_by (λ b. b) (set bits.free i v) < regions_at bits.class → IsSlabIn (with_bit bits i v) first
-bit_written bits first i v is low few = record {
-  small = is.small;
-  long = length-set bits.free i v ∙ is.long;
-  behind = λ j far. get_or-set_other bits.free i j v false (λ e. omega arith) ∙ is.behind j far;
-  some_out = few;
-  inside = is.inside;
-}
+bit_written bits first i v is low few =
+    let long = length-set bits.free i v ∙ is.long in
+    let behind : (j : ℕ) → regions_at bits.class ≤ j → get_or (set bits.free i v) j false ≡ false = λ j far. get_or-set_other bits.free i j v false (λ e. omega arith) ∙ is.behind j far in
+    search (rules, arith, behind)
 
 -- how many are free after one was taken
 pub fewer_left : (bits : List Bool) (i : ℕ) → i < length bits → get_or bits i false ≡ true → count_by (λ b. b) (set bits i false) + 1 ≡ count_by (λ b. b) bits
@@ -146,27 +117,25 @@ module _ (t : Table) (i : IsSlabTable t) (key : Key) (there : Contains t.firsts.
   unfolding slabs_in
   table_changed is u firsts items len free counts chart moved spare codes =
       let keys = ap (λ (s : KeySet). s.keys) firsts in
-      let firsts_spare = ap (λ (s : KeySet). s.spare) firsts in
-      let free_len = ap (λ v. vec_len v) free in
-      let free_cap = ap (λ v. vec_capacity v) free in
-      let free_items = ap (λ v. v.items) free in
-      record {
-        ascending = rw keys i.ascending;
-        kept = rw (items, keys) (kept_changed t.slots.items t.firsts.keys i.kept key there in_items new class is);
-        binned = rw (items, keys) (binned_changed t.slots.items t.firsts.keys i.kept key there in_items new class (small_numbers t i) t.bins.keys u.bins.keys i.binned moved);
-        charted = rw (items, keys, chart) (charted_changed t.slots.items t.firsts.keys i.kept key there in_items new class t.chart i.charted);
-        in_slots = rw (keys, len) i.in_slots;
-        free = rw (keys, len, free_items) i.free;
-        classes = rw counts i.classes;
-        counts = rw (counts, items, keys) (λ c small. i.counts c small ∙ sym (counts_stay t.slots.items t.firsts.keys i.kept key there in_items new class c));
-        places = rw (keys, free_len, len) i.places;
-        held = rw (len, codes) i.held;
-        small = rw len i.small;
-        room = rw (len, free_cap) i.room;
-        chart_room = rw (len, chart) i.chart_room;
-        firsts_room = rw (free_len, firsts_spare) i.firsts_room;
-        bins_room = rw (free_len, spare) i.bins_room;
-      }
+      let in_slots : (k : Key) → Contains u.firsts.keys k → k.minor < vec_len u.slots = rw (keys, len) i.in_slots in
+      let same : AreCounts u.counts (slabs_in u) = rw (counts, items, keys) (λ c small. i.counts c small ∙ sym (counts_stay t.slots.items t.firsts.keys i.kept key there in_items new class c)) in
+      search (
+        rules,
+        arith,
+        firsts,
+        items,
+        len,
+        free,
+        counts,
+        chart,
+        codes,
+        i.ascending,
+        kept_changed t.slots.items t.firsts.keys i.kept key there in_items new class is,
+        i.free,
+        i.classes,
+        binned_changed t.slots.items t.firsts.keys i.kept key there in_items new class (small_numbers t i) t.bins.keys u.bins.keys i.binned moved,
+        charted_changed t.slots.items t.firsts.keys i.kept key there in_items new class t.chart i.charted,
+      )
 
   -- its slabs, where each is changed so
   pub slabs_changed : (f : BinSlab → BinSlab) → slab_of new key.major ≡ f (slab_at t.slots.items key) → ((k : Key) → Contains t.firsts.keys k → k ≢ key → slab_at t.slots.items k ≡ f (slab_at t.slots.items k))
@@ -189,19 +158,14 @@ unfolding IsStrictlySortedBy
 taken_first old new class a key [] s m before stay c d first = absurd (omega arith)
 taken_first old new class a key (k ∷ ks) s m before stay c d first = elim (contains_cases k ks key m) [
   | inl is ↦
-      let t : eqb (bits_at old k.minor).class class ≡ true = eq-eqb _ _ (ap (λ (z : Key). (bits_at old z.minor).class) is ∙ c) in
-      let u : eqb (bits_at new k.minor).class class ≡ true = eq-eqb _ _ (ap (λ (z : Key). (bits_at new z.minor).class) is ∙ d) in
-      let here : (slab_at old k).free ≡ a ∷ (slab_at new k).free = ap (λ (z : Key). (slab_at old z).free) is ∙ first ∙ ap (λ (z : Key). a ∷ (slab_at new z).free) (sym is) in
       let rest = map_same (slab_at old) (slab_at new) ks (λ l n.
-      let above : key_cmp k l ≡ Less = every_member _ ks s.0 l n in
-      let other : l ≢ key = (λ e. less_ne k l above (is ∙ sym e)) in
+      let other : l ≢ key = (λ e. less_ne k l (every_member _ ks s.0 l n) (is ∙ sym e)) in
       ap (λ (b : Bits). slab_of b l.major) (sym (stay l (contains_later k ks l n) other))) in
-      rw (t, u) (λ x. here x ++ free_of class (rest x))
+      grind (arith, nat_tests, is, c, d, first, ap (free_of class) rest)
   | inr n ↦
       let below : key_cmp k key ≡ Less = every_member _ ks s.0 key n in
-      let same = stay k (head k ks) (less_ne k key below) in
       let deep = taken_first old new class a key ks s.1 n (λ l o. before l (contains_later k ks l o)) (λ l o. stay l (contains_later k ks l o)) c d first in
-      grind (arith, nat_tests, before k (head k ks) below, same, deep)
+      grind (arith, nat_tests, before k (head k ks) below, stay k (head k ks) (less_ne k key below), deep)
 ]
 
 module _ (t : Table) (i : IsSlabTable t) (class : ℕ) (key : Key) (o : IsLowestOpen t class key) (n : ℕ) (found : position (λ b. b) (bits_at t.slots.items key.minor).free ≡ Some n) (low : n < regions_at (bits_at t.slots.items key.minor).class) where
@@ -222,9 +186,7 @@ module _ (t : Table) (i : IsSlabTable t) (class : ℕ) (key : Key) (o : IsLowest
   is_free = (position-Some (λ b. b) bits.free n false found).1
 
   pub taken_in : IsSlabIn (with_bit bits n false) key.major
-  taken_in =
-      let is = i.kept.slab key o.there in
-      bit_written bits key.major n false is low (let less = fewer_left bits.free n within is_free in let some = is.some_out in omega arith)
+  taken_in = bit_written bits key.major n false (i.kept.slab key o.there) low (omega (arith, fewer_left bits.free n within is_free, (i.kept.slab key o.there).some_out))
 
   -- each slab is without the address
   taken_here : slab_of (with_bit bits n false) key.major ≡ with_regions_out (addr ∷ []) (slab_at t.slots.items key)
@@ -234,9 +196,7 @@ module _ (t : Table) (i : IsSlabTable t) (class : ℕ) (key : Key) (o : IsLowest
   pub taken_slabs : (u : Table) → u.firsts ≡ t.firsts → u.slots.items ≡ set t.slots.items key.minor (with_bit bits n false) → slabs_in u ≡ map (with_regions_out (addr ∷ [])) (slabs_in t)
   taken_slabs = slabs_changed t i key o.there (with_bit bits n false) refl (with_regions_out (addr ∷ [])) taken_here (λ k m ne.
       let b = bits_at t.slots.items k.minor in
-      taken_slab b.class k.major (addr ∷ []) b.free b.free (λ j l.
-      let differ : eqb addr (place b.class k.major j) ≡ false = false_from_ne_true _ (λ e. others_lack k m ne j l (sym (eqb-true _ _ e))) in
-      rw differ (grind arith)))
+      taken_slab b.class k.major (addr ∷ []) b.free b.free (λ j l. grind (arith, nat_tests, others_lack k m ne j l)))
 
   -- the address comes first among the free ones of the class
   pub taken_lowest : (u : Table) → u.firsts ≡ t.firsts → u.slots.items ≡ set t.slots.items key.minor (with_bit bits n false) → free_of class (slabs_in t) ≡ addr ∷ free_of class (slabs_in u)
@@ -262,7 +222,7 @@ module _ (t : Table) (i : IsSlabTable t) (class addr : ℕ) (key : Key) (n : ℕ
   inside_regions = subst (λ c. n < regions_at c) (sym o.out.of_class) o.out.inside
 
   pub within_bits : n < length old.free
-  within_bits = let is = i.kept.slab key o.there in let most = (slab_filled old.class is.small).2 in let long = is.long in let low = inside_regions in omega arith
+  within_bits = omega (arith, (slab_filled old.class (i.kept.slab key o.there).small).2, (i.kept.slab key o.there).long, inside_regions)
 
   pub at_old : place old.class key.major n ≡ addr
   at_old = ap (λ c. place c key.major n) o.out.of_class ∙ o.at
@@ -274,7 +234,7 @@ module _ (t : Table) (i : IsSlabTable t) (class addr : ℕ) (key : Key) (n : ℕ
   left_put = more_left old.free n within_bits o.out.out
 
   pub put_in : left_of old + 1 < regions_at class → IsSlabIn (with_bit old n true) key.major
-  put_in others = bit_written old key.major n true (i.kept.slab key o.there) inside_regions (subst (λ m. m < regions_at old.class) (sym left_put) (subst (λ c. left_of old + 1 < regions_at c) (sym o.out.of_class) others))
+  put_in others = bit_written old key.major n true (i.kept.slab key o.there) inside_regions (grind (arith, left_put, o.out.of_class, others))
 
   pub put_here : slab_of (with_bit old n true) key.major ≡ with_free addr (slab_at t.slots.items key)
   put_here = freed_slab old.class key.major addr old.free (set old.free n true) (i.kept.slab key o.there).small (λ j l.
@@ -296,9 +256,7 @@ module _ (t : Table) (i : IsSlabTable t) (class addr : ℕ) (key : Key) (n : ℕ
 slab_used : (t : Table) → IsSlabTable t → (k : Key) → Contains t.firsts.keys k → is_all_free (slab_at t.slots.items k) ≡ false
 slab_used t i k m =
     let b = bits_at t.slots.items k.minor in
-    let many = length-map (ones (regions_at b.class) b.free) (place b.class k.major) ∙ length_free t i k m in
-    let some = (i.kept.slab k m).some_out in
-    grind (arith, nat_tests)
+    grind (arith, nat_tests, length-map (ones (regions_at b.class) b.free) (place b.class k.major), length_free t i k m, (i.kept.slab k m).some_out)
 
 pub none_unused : (t : Table) → IsSlabTable t → list_any is_all_free (slabs_in t) ≡ false
 unfolding slabs_in
@@ -306,17 +264,14 @@ none_unused t i = any_map (slab_at t.slots.items) is_all_free t.firsts.keys ∙ 
 
 pub all_used : (t : Table) → IsSlabTable t → filter (λ s. not (is_all_free s)) (slabs_in t) ≡ slabs_in t
 unfolding slabs_in
-all_used t i = filter_all_of (λ s. not (is_all_free s)) (map (slab_at t.slots.items) t.firsts.keys) (λ s m.
-    let p = map_from (slab_at t.slots.items) t.firsts.keys s m in
-    ap (λ (s : BinSlab). not (is_all_free s)) (sym p.2) ∙ ap not (slab_used t i p.0 p.1))
+all_used t i = filter_all_of (λ s. not (is_all_free s)) (map (slab_at t.slots.items) t.firsts.keys) (λ s m. grind (arith, map_from (slab_at t.slots.items) t.firsts.keys s m, slab_used t i))
 
 module _ (t : Table) (i : IsSlabTable t) (class addr : ℕ) (key : Key) (n : ℕ) (o : IsOutAt t class addr key n) (last : left_of (bits_at t.slots.items key.minor) + 1 ≡ regions_at class) where
   -- the slab would be unused
   emptied : is_all_free (with_free addr (slab_at t.slots.items key)) ≡ true
   emptied =
       let b = bits_at t.slots.items key.minor in
-      let bits = set b.free n true in
-      let count = length-map (ones (regions_at b.class) bits) (place b.class key.major) ∙ length_ones bits (regions_at b.class) (put_behind t i class addr key n o) ∙ left_put t i class addr key n o ∙ last ∙ ap regions_at (sym o.out.of_class) in
+      let count = length-map (ones (regions_at b.class) (set b.free n true)) (place b.class key.major) ∙ length_ones (set b.free n true) (regions_at b.class) (put_behind t i class addr key n o) ∙ left_put t i class addr key n o ∙ last ∙ ap regions_at (sym o.out.of_class) in
       ap is_all_free (sym (put_here t i class addr key n o)) ∙ grind (arith, nat_tests)
 
   pub one_unused : list_any is_all_free (map (with_free addr) (slabs_in t)) ≡ true

@@ -123,6 +123,7 @@ impl Table {
     }
 
     /// The key of the lowest slab of a class that has a free region.
+    #[tactic(auto, using(crate::proofs::Taking::none_open))]
     pub fn open_slab(&self, class: u8) -> Option<Key>
         requires table { IsSlabTable self.now }
         requires class { IsSmall class }
@@ -210,6 +211,7 @@ impl Table {
     }
 
     // The last slab that begins at a page or below. It is the one that has the page, if one has.
+    #[tactic(auto, using(crate::proofs::Holding::charted_place, crate::proofs::Holding::last_found, crate::proofs::Holding::none_found))]
     fn last_at(&self, page: u64) -> Option<Key>
         requires table { IsSlabTable self.now }
         requires page { page + 1 < 2 ^ 64 }

@@ -5,13 +5,13 @@ use Rattle.std.proofs.lemmas.List.{map-append}
 use Rattle.std.proofs.lemmas.List.Elements.{All-pop}
 use Rattle.chunk_table.specs.declared.table.ChunkSeat.{ChunkSeat}
 use Rattle.chunk_table.specs.declared.view.View.{View}
-use Rattle.chunk_table.specs.Steps.{alone, joined, spent}
+use Rattle.chunk_table.specs.Steps.{alone, both_views, spent}
 use Rattle.chunk_table.specs.Tables.{share_of}
 
 -- the shares of the last seat move to those that were joined
-pub gathered : (before rest : List ChunkSeat) (seat : ChunkSeat) (v w : View) → before ≡ rest ++ seat ∷ [] → w ≡ alone (share_of seat) → map share_of rest ++ (joined v w).shares ≡ map share_of before ++ v.shares
+pub gathered : (before rest : List ChunkSeat) (seat : ChunkSeat) (v w : View) → before ≡ rest ++ seat ∷ [] → w ≡ alone (share_of seat) → map share_of rest ++ (both_views v w).shares ≡ map share_of before ++ v.shares
 gathered before rest seat v w is one =
-    ap (λ u. map share_of rest ++ (joined v u).shares) one ∙ sym (ap (λ l. map share_of l ++ v.shares) is ∙ (ap (λ l. l ++ v.shares) (map-append share_of rest (seat ∷ [])) ∙ append_assoc (map share_of rest) (share_of seat ∷ []) v.shares))
+    ap (λ u. map share_of rest ++ (both_views v u).shares) one ∙ sym (ap (λ l. map share_of l ++ v.shares) is ∙ (ap (λ l. l ++ v.shares) (map-append share_of rest (seat ∷ [])) ∙ append_assoc (map share_of rest) (share_of seat ∷ []) v.shares))
 
 -- the first of some views
 abbrev first_view : List View → View

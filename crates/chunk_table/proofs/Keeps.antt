@@ -15,7 +15,7 @@ use Rattle.atomic_table.proofs.Lists.{at_set, set_else, at_snoc, exchanged}
 use Rattle.chunk_table.specs.declared.view.Share.{Share}
 use Rattle.chunk_table.specs.declared.view.View.{View}
 use Rattle.chunk_table.specs.Rule.{mark, owns, marked, blank, opening_view, Agrees, Rule}
-use Rattle.chunk_table.specs.Steps.{with_owned, with_freed, with_taken, first_of, alone, Shows, claimed, freed, looked, first_part, later_part, joined, spent}
+use Rattle.chunk_table.specs.Steps.{with_owned, with_freed, with_taken, first_of, alone, Shows, claimed, freed, looked, first_part, later_part, both_views, spent}
 
 -- an element that is there lies within the list, and is read there
 at_within : {A : Type 0} (l : List A) (i : ℕ) (a d : A) → get_elem? l i ≡ some a → (i < length l) × (get_or l i d ≡ a)
@@ -252,16 +252,16 @@ module _ {S : Type 0} (arenas : ℕ) where
       }
 
   -- putting the shares of two seats together keeps the rule
-  pub joins : (id : ℕ) (v : View) (other : ℕ) (w : View) → Joins Kept id v other w (joined v w) spent
+  pub joins : (id : ℕ) (v : View) (other : ℕ) (w : View) → Joins Kept id v other w (both_views v w) spent
   joins id v other w s r at apart there =
       let P : View → Type 0 = λ u. All (Agrees arenas s.words) u.shares in
-      let second = sym (set_else s.views id other (joined v w) apart) ∙ there in
+      let second = sym (set_else s.views id other (both_views v w) apart) ∙ there in
       let both = All-append (Agrees arenas s.words) w.shares v.shares (r.agrees other w second) (r.agrees id v at) in record {
         size = r.size;
-        agrees = set_cases P (set s.views id (joined v w)) other spent (All-nil (Agrees arenas s.words)) (λ j u _ e. set_cases P s.views id (joined v w) both (λ j u _ e. r.agrees j u e) j u e);
+        agrees = set_cases P (set s.views id (both_views v w)) other spent (All-nil (Agrees arenas s.words)) (λ j u _ e. set_cases P s.views id (both_views v w) both (λ j u _ e. r.agrees j u e) j u e);
         once = λ n.
-            let a = sum_set (marked n) s.views id v (joined v w) at in let b = sum_set (marked n) (set s.views id (joined v w)) other w spent there in let c = sum_by-append (bit n) w.shares v.shares in
-            let same : sum_by (marked n) (set (set s.views id (joined v w)) other spent) ≡ sum_by (marked n) s.views = omega arith in same ∙ r.once n;
+            let a = sum_set (marked n) s.views id v (both_views v w) at in let b = sum_set (marked n) (set s.views id (both_views v w)) other w spent there in let c = sum_by-append (bit n) w.shares v.shares in
+            let same : sum_by (marked n) (set (set s.views id (both_views v w)) other spent) ≡ sum_by (marked n) s.views = omega arith in same ∙ r.once n;
         named = r.named;
       }
 

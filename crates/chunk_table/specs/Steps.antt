@@ -57,8 +57,8 @@ abbrev pub later_part : View → View
 later_part v = record { shares = drop 1 v.shares }
 
 -- the shares of both, those of the second first
-abbrev pub joined : View → View → View
-joined v w = record { shares = w.shares ++ v.shares }
+abbrev pub both_views : View → View → View
+both_views v w = record { shares = w.shares ++ v.shares }
 
 -- a view that was joined to another has no share
 abbrev pub spent : View

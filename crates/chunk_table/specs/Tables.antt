@@ -1,5 +1,5 @@
 -- What a clause says of a table of chunks, of its seats, and of the book that they leave.
-use Rattle.std.specs.Prelude.{ℕ, ◌≡◌, ◌≢◌, ◌+◌, ◌-◌, ◌<◌, ◌≤◌, List}
+use Rattle.std.specs.Prelude.{ℕ, ◌≡◌, ◌≢◌, ◌+◌, ◌<◌, ◌≤◌, List}
 use Rattle.chunk_table.specs.declared.view.Share.{Share}
 use Rattle.chunk_table.specs.declared.table.ChunkTable.{ChunkTable}
 use Rattle.chunk_table.specs.declared.claims.Claim.{Claim}

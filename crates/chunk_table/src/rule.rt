@@ -62,9 +62,9 @@ impl Split<View> for Parts {
 pub struct Gathers;
 
 impl Join<View> for Gathers {
-    ghost use Rattle.chunk_table.specs.Steps.{joined, spent};
+    ghost use Rattle.chunk_table.specs.Steps.{both_views, spent};
 
-    ghost both = { joined };
+    ghost both = { both_views };
 
     ghost spent = { spent };
 }

@@ -1,5 +1,5 @@
 -- The regions at all pages, and what each change of a page's number makes of them.
-use Rattle.std.proofs.Common.{◌≡◌, ℕ, zero, suc, ◌+◌, ◌*◌, ◌/◌, ◌%◌, ◌<◌, true, false, ◌&&◌, not, cond, List, [], filter, find, Option, None, Some, is_some, refl, sym, ◌∙◌, ap, arith, Bool, eqb, leb, ltb}
+use Rattle.std.proofs.Common.{◌≡◌, ℕ, zero, suc, ◌+◌, ◌*◌, ◌/◌, ◌%◌, ◌<◌, true, ◌&&◌, not, cond, List, [], filter, find, Option, None, Some, is_some, refl, sym, ◌∙◌, ap, arith, Bool, eqb, leb, ltb}
 use Rattle.std.specs.List.{cons_option}
 use Rattle.std.specs.Option.{option_map}
 use Rattle.std.specs.Cmp.{unsigned_tied}
@@ -11,25 +11,25 @@ use Rattle.space_model.specs.Region.{address_of, held_anew, inserted, starts_at}
 use Rattle.list_facts.specs.ByKey.{AreBehind, IsRising}
 use Rattle.list_facts.specs.Codes.{code_of, of_code}
 use Rattle.list_facts.proofs.ByKey.{absent_filter, finds_changed, finds_without, is_inserted, rising_changed, rising_filter, same_finds}
-use Rattle.large_book.specs.Larges.{Numbers, addr_of, packed, region_at, region_numbered, listed, larges_in}
+use Rattle.large_book.specs.Larges.{Numbers, addr_of, packed, region_at, region_numbered, larges_from, larges_in}
 
 -- ---- what is listed
 
 -- the regions from a page on begin at that page or behind it
-behind_page : (numbers : Numbers) (addr page more : ℕ) → addr < 4096 * page → AreBehind addr_of addr (listed numbers page more)
-unfolding listed
+behind_page : (numbers : Numbers) (addr page more : ℕ) → addr < 4096 * page → AreBehind addr_of addr (larges_from numbers page more)
+unfolding larges_from
 behind_page numbers addr page zero low = tt
 behind_page numbers addr page (suc more) low =
-    elim (map.get numbers page) as (λ o. AreBehind addr_of addr (cons_option (option_map (region_at page) o) (listed numbers (page + 1) more))) [
+    elim (map.get numbers page) as (λ o. AreBehind addr_of addr (cons_option (option_map (region_at page) o) (larges_from numbers (page + 1) more))) [
       | None ↦ behind_page numbers addr (page + 1) more (omega (arith, low))
       | Some number ↦ (low, behind_page numbers addr (page + 1) more (omega (arith, low)))
     ]
 
-rises : (numbers : Numbers) (page more : ℕ) → IsRising addr_of (listed numbers page more)
-unfolding listed
+rises : (numbers : Numbers) (page more : ℕ) → IsRising addr_of (larges_from numbers page more)
+unfolding larges_from
 rises numbers page zero = tt
 rises numbers page (suc more) =
-    elim (map.get numbers page) as (λ o. IsRising addr_of (cons_option (option_map (region_at page) o) (listed numbers (page + 1) more))) [
+    elim (map.get numbers page) as (λ o. IsRising addr_of (cons_option (option_map (region_at page) o) (larges_from numbers (page + 1) more))) [
       | None ↦ rises numbers (page + 1) more
       | Some number ↦ (behind_page numbers (4096 * page) (page + 1) more (omega arith), rises numbers (page + 1) more)
     ]
@@ -44,11 +44,11 @@ found_cons (Some number) addr page rs = grind (arith, nat_tests)
 abbrev is_among : ℕ → ℕ → ℕ → Bool
 is_among addr page more = eqb (addr % 4096) 0 && leb page (addr / 4096) && ltb (addr / 4096) (page + more)
 
-finds : (numbers : Numbers) (addr page more : ℕ) → find (starts_at addr) (listed numbers page more) ≡ cond (is_among addr page more) (region_numbered numbers (addr / 4096)) None
-unfolding listed
+finds : (numbers : Numbers) (addr page more : ℕ) → find (starts_at addr) (larges_from numbers page more) ≡ cond (is_among addr page more) (region_numbered numbers (addr / 4096)) None
+unfolding larges_from
 finds numbers addr page zero = grind (arith, nat_tests)
 finds numbers addr page (suc more) =
-    grind (arith, nat_tests, found_cons (map.get numbers page) addr page (listed numbers (page + 1) more), finds numbers addr (page + 1) more)
+    grind (arith, nat_tests, found_cons (map.get numbers page) addr page (larges_from numbers (page + 1) more), finds numbers addr (page + 1) more)
 
 -- what begins at an address
 abbrev pub found : Numbers → ℕ → Option Region
@@ -120,11 +120,9 @@ pub hand_over_is : (numbers : Numbers) (addr number : ℕ) (holder : Option ℕ)
     → larges_in (map.insert numbers (addr / 4096) (packed (held_by holder (region_at (addr / 4096) number)))) ≡ held_anew (starts_at addr) holder (larges_in numbers)
 hand_over_is numbers addr number holder stood has =
     let next = held_by holder (region_at (addr / 4096) number) in
-    let page = stood.page in
-    let low = stood.low in
     same_larges _ _ (rising_changed addr_of (held_by holder) (λ r. refl) (starts_at addr) (larges_in numbers) (larges_rise numbers)) (λ a.
-    found_put numbers addr (packed next) a page low
-    ∙ grind (arith, nat_tests, region_back next (addr / 4096) (omega arith) refl, larges_found numbers a, finds_changed addr_of (held_by holder) (λ r. refl) addr a (larges_in numbers)))
+    found_put numbers addr (packed next) a stood.page stood.low
+    ∙ grind (arith, nat_tests, stood.page, region_back next (addr / 4096) (omega arith) (omega (arith, stood.page)), larges_found numbers a, finds_changed addr_of (held_by holder) (λ r. refl) addr a (larges_in numbers)))
 
 pub replace_is : (numbers : Numbers) (r : Region) → r.class < 256 → Stands numbers r.addr
     → larges_in (map.insert numbers (r.addr / 4096) (packed r)) ≡ inserted r (filter (λ q. not (starts_at r.addr q)) (larges_in numbers))
@@ -136,8 +134,4 @@ take_is numbers addr there =
     found_cleared numbers addr a (stands numbers addr there).page ∙ ap (cond (eqb addr a) None) (sym (larges_found numbers a)) ∙ sym (finds_without addr_of addr a (larges_in numbers)))
 
 pub none_listed : larges_in map.empty ≡ []
-none_listed = same_larges _ _ tt (λ a. rw (map.get-empty nat_cmp (a / 4096)) (none (is_among a 0 536870912)))
-  where
-    none : (b : Bool) → ◌≡◌ {A = Option Region} (cond b None None) None
-    none true = refl
-    none false = refl
+none_listed = same_larges _ _ tt (λ a. grind (arith, map.get-empty {X = ℕ} nat_cmp (a / 4096)))

@@ -41,13 +41,13 @@ abbrev pub region_numbered : Numbers → ℕ → Option Region
 region_numbered numbers page = option_map (region_at page) (map.get numbers page)
 
 -- the regions at so many pages from one on
-unfoldable pub listed : Numbers → ℕ → ℕ → List Region
-listed numbers page zero = []
-listed numbers page (suc more) = cons_option (region_numbered numbers page) (listed numbers (page + 1) more)
+unfoldable pub larges_from : Numbers → ℕ → ℕ → List Region
+larges_from numbers page zero = []
+larges_from numbers page (suc more) = cons_option (region_numbered numbers page) (larges_from numbers (page + 1) more)
 
 -- the regions at all pages
 unfoldable pub larges_in : Numbers → List Region
-larges_in numbers = listed numbers 0 PAGES
+larges_in numbers = larges_from numbers 0 PAGES
 
 -- the regions at all pages, and as many places as there are spare leaves
 abbrev pub shown : Inside → Larges

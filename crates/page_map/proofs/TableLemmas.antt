@@ -14,7 +14,7 @@ use Rattle.std.proofs.lemmas.List.{length-append, length-replicate, get_or_past,
 use Rattle.lane_scan.specs.Bits.{bits_of}
 use Rattle.lane_scan.proofs.BitLemmas.{length-bits_of, get_or-bits_of}
 use Rattle.page_map.specs.Pages.{Pages, put, with_leaf}
-use Rattle.page_map.specs.Table.{leaf_of, number_at, number_of, numbers_in, chunks_in, pages_in, IsTable}
+use Rattle.page_map.specs.Table.{leaf_of, number_at, number_of, numbers_in, chunks_with_leaf, pages_in, IsTable}
 
 -- places in a row: a root, or a leaf
 abbrev pub Places : Type 0
@@ -45,9 +45,9 @@ get-numbers_in root at page =
     ∙ grind (arith, nat_tests, get_or_past root (page / 512) None)
 
 -- which chunks have a leaf
-contains-chunks_in : (root : Places) (chunk : ℕ) → set.contains (chunks_in root) chunk ≡ is_some (leaf_of root chunk)
-unfolding chunks_in
-contains-chunks_in root chunk =
+contains-chunks_with_leaf : (root : Places) (chunk : ℕ) → set.contains (chunks_with_leaf root) chunk ≡ is_some (leaf_of root chunk)
+unfolding chunks_with_leaf
+contains-chunks_with_leaf root chunk =
     set.contains-from_list_nat _ chunk ∙ list_any-range (λ c. is_some (leaf_of root c)) 0 (length root) chunk
     ∙ grind (arith, nat_tests, get_or_past root chunk None)
 
@@ -85,11 +85,6 @@ unmarked numbers n k = rw (more_words [] n k) (behind [] numbers k (omega arith)
 count_more : (xs : Places) (n : ℕ) → count_by is_some (xs ++ replicate n None) ≡ count_by is_some xs
 count_more xs n = omega (arith, sum_by-append (λ o. cond (is_some o) 1 0) xs (replicate n None), sum_by-replicate (λ (o : Option ℕ). cond (is_some o) 1 0) n None)
 
--- an option without a value
-none_from : (o : Option ℕ) → is_some o ≡ false → o ≡ None
-none_from None e = refl
-none_from (Some x) e = absurd (cc)
-
 -- a table, and what it holds
 pub record IsTableOf (root : Places) (places : ℕ) (at : ℕ → Option ℕ) (spare : ℕ) (pages : Pages) : Type 0 where
   pub table : IsTable root places
@@ -100,7 +95,7 @@ pub record IsTableOf (root : Places) (places : ℕ) (at : ℕ → Option ℕ) (s
 -- a table is one of what it shows
 pub of_view : {root : Places} {places : ℕ} {spare : ℕ} {pages : Pages} (at : ℕ → Option ℕ) → IsTable root places → pages_in root at spare ≡ pages → IsTableOf root places at spare pages
 of_view {root = root} at table is =
-    rw (← is) (record { table = table; numbers = get-numbers_in root at; chunks = contains-chunks_in root; left = refl })
+    rw (← is) (record { table = table; numbers = get-numbers_in root at; chunks = contains-chunks_with_leaf root; left = refl })
 
 -- what a table holds, and what each change of it leaves
 module _ {root : Places} {places : ℕ} {at : ℕ → Option ℕ} {spare : ℕ} {pages : Pages} (of : IsTableOf root places at spare pages) where
@@ -108,7 +103,7 @@ module _ {root : Places} {places : ℕ} {at : ℕ → Option ℕ} {spare : ℕ} 
   pub view_of : pages_in root at spare ≡ pages
   view_of = λ i. record {
     numbers = map.same_map nat_cmp_total map.nat_cmp-IsAntisymmetric _ _ (λ q. get-numbers_in root at q ∙ sym (of.numbers q)) i;
-    chunks = set.same_set nat_cmp_total set.nat_cmp-IsAntisymmetric _ _ (λ q. contains-chunks_in root q ∙ sym (of.chunks q)) i;
+    chunks = set.same_set nat_cmp_total set.nat_cmp-IsAntisymmetric _ _ (λ q. contains-chunks_with_leaf root q ∙ sym (of.chunks q)) i;
     spare = sym of.left i;
   }
 
@@ -122,9 +117,9 @@ module _ {root : Places} {places : ℕ} {at : ℕ → Option ℕ} {spare : ℕ} 
       → IsTableOf (put_at (root ++ replicate more None) chunk (Some (places / 512))) (places + 512) wide (spare - 1) (with_leaf pages chunk)
   given more chunk wide without within blank bare =
       let table = of.table in
-      let free = none_from (leaf_of root chunk) (sym (of.chunks chunk) ∙ without) in
+      let free : leaf_of root chunk ≡ None = grind (arith, of.chunks chunk, without) in
       let leaf = places / 512 in
-      let filled : leaf * 512 ≡ places = let f = table.filled in omega arith in
+      let filled : leaf * 512 ≡ places = omega (arith, table.filled) in
       let long : Places = root ++ replicate more None in
       let same = reads_more root more None in
       let inside : chunk < length long = omega (arith, length-append root (replicate more None), length-replicate {A = Option ℕ} more None) in
@@ -134,20 +129,8 @@ module _ {root : Places} {places : ℕ} {at : ℕ → Option ℕ} {spare : ℕ} 
       record {
         table = record {
           filled = grind (arith, sum_by-set (λ o. cond (is_some o) 1 0) long chunk (Some leaf) None, same chunk, table.filled, count_more root more);
-          taken = λ c l has. elim (cases_eq c chunk) [
-            | inl e ↦ let own : Some leaf ≡ Some l = sym here ∙ ap (leaf_of now) (sym e) ∙ has in let is : leaf ≡ l = cc in omega arith
-            | inr ne ↦ let le = table.taken c l (sym (other c ne) ∙ has) in omega arith
-          ];
-          apart = λ c o l has also. elim (cases_eq c chunk) [
-            | inl e ↦ elim (cases_eq o chunk) [
-              | inl f ↦ e ∙ sym f
-              | inr nf ↦ absurd (let own : Some leaf ≡ Some l = sym here ∙ ap (leaf_of now) (sym e) ∙ has in let is : leaf ≡ l = cc in let le = table.taken o l (sym (other o nf) ∙ also) in omega arith)
-            ]
-            | inr ne ↦ elim (cases_eq o chunk) [
-              | inl f ↦ absurd (let own : Some leaf ≡ Some l = sym here ∙ ap (leaf_of now) (sym f) ∙ also in let is : leaf ≡ l = cc in let le = table.taken c l (sym (other c ne) ∙ has) in omega arith)
-              | inr nf ↦ table.apart c o l (sym (other c ne) ∙ has) (sym (other o nf) ∙ also)
-            ]
-          ];
+          taken = λ c l has. grind (arith, cases_eq c chunk, here, other c, has, table.taken c l);
+          apart = λ c o l has also. grind (arith, cases_eq c chunk, cases_eq o chunk, here, other c, other o, has, also, table.taken c l, table.taken o l, table.apart c o l);
         };
         numbers = λ q. of.numbers q ∙ elim (cases_eq (q / 512) chunk) [
           | inl e ↦
@@ -156,10 +139,7 @@ module _ {root : Places} {places : ℕ} {at : ℕ → Option ℕ} {spare : ℕ} 
               none ∙ sym (some ∙ blank (leaf * 512 + q % 512) ∙ bare (leaf * 512 + q % 512) (omega arith))
           | inr ne ↦ sym (ap (option_and_then (λ l. wide (l * 512 + q % 512))) (other (q / 512) ne) ∙ ap (λ f. number_of root f q) (λ i k. blank k i))
         ];
-        chunks = λ q. elim (cases_eq q chunk) [
-          | inl e ↦ rw (e, here) (grind (arith, set.members, nat_tests, unsigned_tied chunk chunk))
-          | inr ne ↦ rw (other q ne) (grind (arith, set.members, nat_tests, unsigned_tied q chunk, of.chunks q))
-        ];
+        chunks = λ q. grind (arith, cases_eq q chunk, here, other q, set.members, nat_tests, unsigned_tied q chunk, of.chunks q);
         left = ap (λ n. n - 1) of.left;
       }
 
@@ -176,14 +156,10 @@ module _ {root : Places} {places : ℕ} {at : ℕ → Option ℕ} {spare : ℕ} 
   pub emptied : (bare : ℕ → Option ℕ) → ((k : ℕ) → bare k ≡ None) → IsTableOf root places bare spare (record pages { numbers = map.empty })
   emptied bare blank = record {
     table = of.table;
-    numbers = λ q. map.get-empty nat_cmp q ∙ sym (reads (leaf_of root (q / 512)) (q % 512));
+    numbers = λ q. grind (arith, map.get-empty {X = ℕ} nat_cmp q, blank);
     chunks = of.chunks;
     left = of.left;
   }
-    where
-      reads : (o : Option ℕ) (p : ℕ) → option_and_then (λ l. bare (l * 512 + p)) o ≡ None
-      reads None p = refl
-      reads (Some l) p = blank (l * 512 + p)
 
   -- a page whose chunk has a leaf gets a number, or none
   pub written : (leaf page : ℕ) (number : Option ℕ) (now : ℕ → Option ℕ) → leaf_of root (page / 512) ≡ Some leaf

@@ -25,14 +25,14 @@ numbers_in root at =
     map.from_entries (filter_map (λ page. option_map (λ number. (page, number)) (number_of root at page)) (range_with_len 0 (CHUNK_PAGES * length root)))
 
 -- the chunks that have a leaf
-unfoldable pub chunks_in : List (Option ℕ) → set.FinSet nat_cmp
-chunks_in root = set.from_list (filter (λ chunk. is_some (leaf_of root chunk)) (range_with_len 0 (length root)))
+unfoldable pub chunks_with_leaf : List (Option ℕ) → set.FinSet nat_cmp
+chunks_with_leaf root = set.from_list (filter (λ chunk. is_some (leaf_of root chunk)) (range_with_len 0 (length root)))
 
 -- what a table holds, with so many spare leaves
 abbrev pub pages_in : List (Option ℕ) → (ℕ → Option ℕ) → ℕ → Pages
 pages_in root at spare = record {
   numbers = numbers_in root at;
-  chunks = chunks_in root;
+  chunks = chunks_with_leaf root;
   spare = spare;
 }
 

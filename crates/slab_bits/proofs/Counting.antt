@@ -1,7 +1,7 @@
 -- How many bits are set, as one is set or cleared.
 use Rattle.std.proofs.Common.{◌≡◌, ℕ, ◌+◌, ◌-◌, ◌<◌, ◌≤◌, ◌&&◌, suc, max, Bool, true, false, cond, leb, ltb, List, [], ◌∷◌, length, get_or, set, ap, ◌∙◌, arith}
-use mathlib.Core.Logic.{dite}
-use native.Mathlib.Decide.{ℕ_discrete}
+use Rattle.std.proofs.Common.{rules}
+use Rattle.std.proofs.lemmas.Bool.{cases_eq}
 use Rattle.std.specs.List.{count_by}
 use Rattle.std.proofs.lemmas.List.{get_or-set_same, get_or-set_other}
 use Rattle.std.proofs.lemmas.List.Sums.{sum_by-cons, sum_by-set}
@@ -33,37 +33,26 @@ count_set bits i b inside = sum_by-set (λ (bit : Bool). cond bit 1 0) bits i b 
 pub taken : (class left i : ℕ) (before after : List ℕ) → IsSlab class left before → i < length (bits_of before) → get_or (bits_of before) i false ≡ true → length after ≡ 8 → bits_of after ≡ set (bits_of before) i false
     → (1 ≤ left) × IsSlab class (left - 1) after
 taken class left i before after slab inside free long is =
-    let written = count_set (bits_of before) i false inside in let one : cond {A = ℕ} (get_or (bits_of before) i false) 1 0 ≡ 1 = ap (λ (b : Bool). cond {A = ℕ} b 1 0) free in
-    let same = ap count is in let counted = slab.counted in (
-      omega arith,
-      record {
-        small = slab.small;
-        long = long;
-        behind = λ k far. ap (λ l. get_or l k false) is ∙ dite (ℕ_discrete k i)
-            (λ here. ap (λ j. get_or (set (bits_of before) i false) j false) here ∙ get_or-set_same (bits_of before) i false false inside)
-            (λ other. get_or-set_other (bits_of before) i k false false other ∙ slab.behind k far);
-        counted = omega arith;
-      },
-    )
+    let written = count_set (bits_of before) i false inside in
+    let one : cond {A = ℕ} (get_or (bits_of before) i false) 1 0 ≡ 1 = ap (λ (b : Bool). cond {A = ℕ} b 1 0) free in
+    let same = ap count is in
+    let behind : (k : ℕ) → regions_at class ≤ k → get_or (bits_of after) k false ≡ false = λ k far. grind (arith, ap (λ l. get_or l k false) is, cases_eq k i, get_or-set_same (bits_of before) i false false inside, get_or-set_other (bits_of before) i k false false, slab.behind k far) in
+    (omega (arith, slab.counted), search (rules, arith, behind))
 
 -- a slab to which a region was put back
 pub put : (class left i : ℕ) (before after : List ℕ) → IsSlab class left before → i < length (bits_of before) → i < regions_at class → get_or (bits_of before) i false ≡ false → length after ≡ 8 → bits_of after ≡ set (bits_of before) i true
     → IsSlab class (left + 1) after
 put class left i before after slab inside low out long is =
-    let written = count_set (bits_of before) i true inside in let none_of : cond {A = ℕ} (get_or (bits_of before) i false) 1 0 ≡ 0 = ap (λ (b : Bool). cond {A = ℕ} b 1 0) out in
-    let same = ap count is in let counted = slab.counted in record {
-      small = slab.small;
-      long = long;
-      behind = λ k far. ap (λ l. get_or l k false) is ∙ (get_or-set_other (bits_of before) i k true false (λ e. omega arith) ∙ slab.behind k far);
-      counted = omega arith;
-    }
+    let written = count_set (bits_of before) i true inside in
+    let none_of : cond {A = ℕ} (get_or (bits_of before) i false) 1 0 ≡ 0 = ap (λ (b : Bool). cond {A = ℕ} b 1 0) out in
+    let same = ap count is in
+    let behind : (k : ℕ) → regions_at class ≤ k → get_or (bits_of after) k false ≡ false = λ k far. ap (λ l. get_or l k false) is ∙ (get_or-set_other (bits_of before) i k true false (λ e. omega arith) ∙ slab.behind k far) in
+    search (rules, arith, behind)
 
 -- a slab of which the regions from one number on are free
 pub made : (class out : ℕ) (words : List ℕ) → class < 36 → out ≤ regions_at class → regions_at class ≤ 512 → length words ≡ 8 → ((i : ℕ) → get_or (bits_of words) i false ≡ (leb out i && ltb i (regions_at class)))
     → IsSlab class (regions_at class - out) words
-made class out words small few most long run = record {
-  small = small;
-  long = long;
-  behind = λ i far. run i ∙ grind (arith, nat_tests);
-  counted = (let all = count_run (bits_of words) 0 out (regions_at class) (λ i _. run i ∙ ap (λ n. leb out n && ltb n (regions_at class)) (omega arith)) few (omega (arith, length-bits_of words)) in omega arith);
-}
+made class out words small few most long run =
+    let behind : (i : ℕ) → regions_at class ≤ i → get_or (bits_of words) i false ≡ false = λ i far. run i ∙ grind (arith, nat_tests) in
+    let all = count_run (bits_of words) 0 out (regions_at class) (λ i _. run i ∙ ap (λ n. leb out n && ltb n (regions_at class)) (omega arith)) few (omega (arith, length-bits_of words)) in
+    search (rules, arith, behind)

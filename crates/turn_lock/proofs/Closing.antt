@@ -1,6 +1,7 @@
 -- What the claims of all passes say of the whole history.
 use Rattle.turn_lock.proofs.Words.{◌≡◌, ℕ, ◌+◌, ◌-◌, ◌<◌, ◌≤◌, ◌≢◌, suc, List, [], ◌∷◌, ◌++◌, length, set, sym, refl, ap, ◌∙◌, subst, lt_of_not-le, arith, append_assoc, append-nil, All, AllPairs, flat_map, sum_by, range_with_len, All-nil, All-cons, All-tail, AllPairs-cons, sum_by-cons, flat_map-append, nat_tests, some, IsPrefix, dite, dec_le, ℕ_discrete, get_elem?, State, at_longer, Ghosts, Pass, Turn, Claim, View, entries_by, replay_turns, total, times, number_count, has, IsClaim, Rule, spent, seen_by, first_numbers, number, held, HasMade, IsWhole}
-use Rattle.turn_lock.proofs.Totals.{total_one, total_set, total_append, total_le, times_range, length_range}
+use Rattle.std.proofs.lemmas.List.FromFn.{length-range_with_len}
+use Rattle.turn_lock.proofs.Totals.{total_one, total_set, total_append, total_le, times_range}
 use Rattle.turn_lock.proofs.Histories.{start_stays}
 use Rattle.turn_lock.proofs.Turned.{only_one}
 
@@ -77,7 +78,7 @@ module _ {M S O E R W : Type 0} {g : Ghosts M S O E R W} where
 
   -- its claim has as many numbers as it holds
   size_is : (p : Pass M S O E R W g) (c : Claim E) → claims_of p ≡ c ∷ [] → sizes (claims_of p) ≡ held p
-  size_is p c is = let a = ap (λ (l : List (Claim E)). length (first_numbers l)) is in let b = ap (λ (l : List ℕ). length l) p.numbers in let d = length_range p.number (p.end - p.number) in let e = ap sizes is in let some_number : p.number < p.end = p.some in omega arith
+  size_is p c is = let a = ap (λ (l : List (Claim E)). length (first_numbers l)) is in let b = ap (λ (l : List ℕ). length l) p.numbers in let d = length-range_with_len p.number (p.end - p.number) in let e = ap sizes is in let some_number : p.number < p.end = p.some in omega arith
 
   -- so do the claims of all passes
   sizes_are : (ps : List (Pass M S O E R W g)) → sizes (claims_in ps) ≡ sum_by held ps

@@ -1,6 +1,8 @@
 -- Each step keeps the rule.
-use Rattle.turn_lock.proofs.Words.{◌≡◌, ℕ, ◌+◌, ◌-◌, ◌%◌, ◌^◌, ◌<◌, ◌≤◌, ◌≢◌, ◌⊎◌, zero, suc, true, false, cond, ltb, List, [], ◌∷◌, ◌++◌, map, length, get_or, take, drop, set, Some, sym, refl, ap, ◌∙◌, subst, inl, inr, ⊎_elim, arith, length-append, Option, none, some, some-injective, some-ne-none, dite, ℕ_discrete, get_elem?, set-get_or, mod-add-mod, nat_tests, append_cancel_left, range_with_len, State, Me, step, keeps, takes, gives, stepped, rest, Allows, Splits, Joins, opening, at_set, set_again, set_else, at_snoc, at_longer, one_turn, Turn, Claim, Stage, Idle, Waiting, Serving, View, turn_of, entries, entries_by, replay_turns, IsLegal, total, times, tickets_in, ticket_of, is_serving, is_idle, IsClaim, StandsIn, number_count, has, tickets, staged, IsTrueView, Slot, opening_view, Rule, drew, looked, with_turn, entry_added, nothing_added, first_part, later_part, joined, spent}
-use Rattle.turn_lock.proofs.Totals.{total_set, total_append, total_one, total_two, total_le, times_range, times_parts, length_parts, length_range, total_parts, at_mapped, at_append}
+use Rattle.turn_lock.proofs.Words.{◌≡◌, ℕ, ◌+◌, ◌-◌, ◌%◌, ◌^◌, ◌<◌, ◌≤◌, ◌≢◌, ◌⊎◌, zero, suc, true, false, cond, ltb, List, [], ◌∷◌, ◌++◌, map, length, get_or, take, drop, set, Some, sym, refl, ap, ◌∙◌, subst, inl, inr, ⊎_elim, arith, length-append, Option, none, some, some-injective, some-ne-none, dite, ℕ_discrete, get_elem?, set-get_or, mod-add-mod, nat_tests, append_cancel_left, range_with_len, State, Me, step, keeps, takes, gives, stepped, rest, Allows, Splits, Joins, opening, at_set, set_again, set_else, at_snoc, at_longer, one_turn, Turn, Claim, Stage, Idle, Waiting, Serving, View, turn_of, entries, entries_by, replay_turns, IsLegal, total, times, tickets_in, ticket_of, is_serving, is_idle, IsClaim, StandsIn, number_count, has, tickets, staged, IsTrueView, Slot, opening_view, Rule, drew, looked, with_turn, entry_added, nothing_added, first_part, later_part, both_views, spent}
+use Rattle.std.proofs.lemmas.Bool.{false_from_ne_true}
+use Rattle.std.proofs.lemmas.List.FromFn.{length-range_with_len}
+use Rattle.turn_lock.proofs.Totals.{total_set, total_append, total_one, total_two, total_le, times_range, times_parts, length_parts, total_parts, at_mapped, at_append}
 use Rattle.turn_lock.proofs.Histories.{by_other, entries_append, prefix_all, prefix_more, replay_append, legal_more}
 
 -- what stands at a place that was set
@@ -48,9 +50,7 @@ module _ {E : Type 0} where
 
   -- a seat that cannot be served is not
   not_serving : (st : Stage E) → (is_serving st ≡ true → ⊥) → is_serving st ≡ false
-  not_serving Idle h = refl
-  not_serving (Waiting t) h = refl
-  not_serving (Serving t whole) h = absurd (h refl)
+  not_serving st h = false_from_ne_true (is_serving st) h
 
   -- each ticket stands in the line
   stands_in : (log : List (Turn E)) (served waiting : ℕ) (st : Stage E) (t : ℕ) → StandsIn log served waiting st → ticket_of st ≡ some t → (served ≤ t) × (t < served + waiting)
@@ -81,8 +81,7 @@ module _ {S E : Type 0} where
   slot_stays : (value : S) (homes : List (Option S)) (views : List (View S E)) (id : ℕ) (v w : View S E) → get_elem? views id ≡ some v → is_serving w.stage ≡ is_serving v.stage → Slot value homes views → Slot value homes (set views id w)
   slot_stays value homes views id v w at alike (inl h) = inl (h.0, set_cases (λ j (u : View S E). is_serving u.stage ≡ false) views id w (alike ∙ h.1 id v at) (λ j u _ e. h.1 j u e))
   slot_stays value homes views id v w at alike (inr h) = dite (ℕ_discrete h.1.0 id)
-      (λ is. let here = subst (λ j. get_elem? views j ≡ some h.1.1) is h.1.2 in
-      let one = some-injective v h.1.1 (sym at ∙ here) in
+      (λ is. let one = some-injective v h.1.1 (sym at ∙ subst (λ j. get_elem? views j ≡ some h.1.1) is h.1.2) in
       inr (h.0, (id, w, set_at views id v w at, alike ∙ (ap (λ (u : View S E). is_serving u.stage) one ∙ h.1.3))))
       (λ other. inr (h.0, (h.1.0, h.1.1, set_else views id h.1.0 w other ∙ h.1.2, h.1.3)))
 
@@ -358,9 +357,9 @@ module _ {S O E R : Type 0} (logs : S → ℕ → O → E → Type 0) (after : S
       }
 
   -- a join keeps the rule
-  pub joins : (id : ℕ) (v : V) (other : ℕ) (w : V) → is_idle v.stage ≡ true → is_idle w.stage ≡ true → Joins Kept id v other w (joined v w) spent
+  pub joins : (id : ℕ) (v : V) (other : ℕ) (w : V) → is_idle v.stage ≡ true → is_idle w.stage ≡ true → Joins Kept id v other w (both_views v w) spent
   joins id v other w idle_v idle_w s r at differ there =
-      let both : V = joined v w in let vs : List V = set s.views id both in let still_v = idle_is v.stage idle_v in let still_w = idle_is w.stage idle_w in
+      let both : V = both_views v w in let vs : List V = set s.views id both in let still_v = idle_is v.stage idle_v in let still_w = idle_is w.stage idle_w in
       let theirs : get_elem? s.views other ≡ some w = sym (set_else s.views id other both differ) ∙ there in
       let know_v = r.knows id v at in let know_w = r.knows other w theirs in
       let free_v : tickets v ≡ 0 = ap tickets_in still_v in let free_w : tickets w ≡ 0 = ap tickets_in still_w in
@@ -399,7 +398,7 @@ module _ {S O E R : Type 0} (logs : S → ℕ → O → E → Type 0) (after : S
         waiting = 0;
         words = refl;
         line = refl;
-        room = (let a = length_range 0 seats in omega arith);
+        room = (let a = length-range_with_len 0 seats in omega arith);
         once = λ n. (let a = times_range n 0 seats in grind (arith, nat_tests));
         small = small;
         turns = omega arith;

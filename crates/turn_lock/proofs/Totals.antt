@@ -47,11 +47,6 @@ pub length_parts : (xs : List ℕ) → length (take 1 xs) + length (drop 1 xs) �
 length_parts [] = refl
 length_parts (x ∷ xs) = omega arith
 
--- a range has as many numbers as it says
-pub length_range : (a k : ℕ) → length (range_with_len a k) ≡ k
-length_range a zero = refl
-length_range a (suc k) = let rest = length_range (a + 1) k in omega arith
-
 -- what two functions of each element count together
 pub total_parts : {A B : Type 0} (f : B → ℕ) (l r : A → B) (g : A → ℕ) → ((a : A) → f (l a) + f (r a) ≡ g a) → (xs : List A) → total f (map l xs) + total f (map r xs) ≡ total g xs
 total_parts f l r g both [] = refl

@@ -20,7 +20,7 @@ pub use native.Mathlib.Decide.{dec_le, ℕ_discrete}
 pub use Rattle.turn_lock.specs.History.{entries_by, replay_turns, turn_of, entries, IsLegal}
 pub use Rattle.turn_lock.specs.Locks.{number, held, HasMade, IsWhole, IsPassOf, spare}
 pub use Rattle.turn_lock.specs.Rule.{total, times, number_count, has, IsClaim, Rule, tickets_in, ticket_of, is_serving, is_idle, StandsIn, tickets, staged, IsTrueView, Slot, opening_view}
-pub use Rattle.turn_lock.specs.Steps.{spent, drew, looked, with_turn, entry_added, nothing_added, first_part, later_part, joined, Sat, Enters}
+pub use Rattle.turn_lock.specs.Steps.{spent, drew, looked, with_turn, entry_added, nothing_added, first_part, later_part, both_views, Sat, Enters}
 pub use Rattle.turn_lock.specs.Views.{seen_by, first_numbers, Served}
 pub use Rattle.turn_lock.specs.declared.lock.Pass.{Pass}
 pub use Rattle.turn_lock.specs.declared.machine.Machine.{Ghosts}

@@ -42,8 +42,8 @@ module _ {S E : Type 0} where
   later_part v = record { first = v.first; stage = Idle; claims = map (λ c. record { numbers = drop 1 c.numbers; seen = c.seen }) v.claims }
 
   -- the claims of both
-  abbrev pub joined : View S E → View S E → View S E
-  joined v w = record { first = v.first; stage = v.stage; claims = w.claims ++ v.claims }
+  abbrev pub both_views : View S E → View S E → View S E
+  both_views v w = record { first = v.first; stage = v.stage; claims = w.claims ++ v.claims }
 
   -- a view that was joined to another knows nothing
   abbrev pub spent : View S E

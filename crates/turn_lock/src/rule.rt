@@ -85,9 +85,9 @@ impl<S, E> Split<View<S, E>> for Cut {
 pub struct Glue;
 
 impl<S, E> Join<View<S, E>> for Glue {
-    ghost use Rattle.turn_lock.specs.Steps.{joined, spent};
+    ghost use Rattle.turn_lock.specs.Steps.{both_views, spent};
 
-    ghost both = { joined };
+    ghost both = { both_views };
 
     ghost spent = { spent };
 }

@@ -4,14 +4,10 @@ use Rattle.bin_book.proofs.holders.own_block.Goals as goal
 use Rattle.bin_book.proofs.holders.own_block.Goals.{then-index-eq0, else-index-eq0}
 
 pub overflow_add-filled : goal.overflow_add-filled
-overflow_add-filled c =
-    let few = few_owned c.args.blocks.now.items (vec_len c.args.codes.now) c.requires.blocks c.args.index (omega arith) (cc) in
-    record { fits = omega arith }
+overflow_add-filled c = record { fits = omega (arith, few_owned c.args.blocks.now.items (vec_len c.args.codes.now) c.requires.blocks c.args.index (omega arith) (cc)) }
 
 pub lengthen-requires : goal.lengthen-requires
-lengthen-requires c =
-    let few = few_owned c.args.blocks.now.items (vec_len c.args.codes.now) c.requires.blocks c.args.index (omega arith) (cc) in
-    omega arith
+lengthen-requires c = omega (arith, few_owned c.args.blocks.now.items (vec_len c.args.codes.now) c.requires.blocks c.args.index (omega arith) (cc))
 
 pub returns-clause-blocks : goal.returns-clause-blocks
 returns-clause-blocks c = elim c.if-index-eq0.branch [

@@ -1,7 +1,8 @@
 use Rattle.bin_book.proofs.Words.{length, sym, ap, ◌∙◌, arith, Bits}
 use Rattle.bin_book.proofs.Taking.{read_bits}
 use Rattle.bin_book.proofs.Regions.{no_regions}
-use Rattle.bin_book.proofs.Adding.{first_there, length_slabs, no_slabs, none_there}
+use Rattle.bin_book.proofs.Adding.{first_there, length_slabs, none_there}
+use Rattle.bin_book.proofs.Growing.{empty_slabs}
 use Rattle.bin_book.proofs.table.Table.clear.Goals as goal
 
 pub index-requires : goal.index-requires
@@ -18,7 +19,7 @@ take_off-requires c =
     }
 
 pub returns-clause-slabs : goal.returns-clause-slabs
-returns-clause-slabs c = no_slabs _ c.loop-slab.invariant.table (none_there c.loop-slab.self.firsts.keys (sym c.first.ensures.first ∙ c.in_default.is))
+returns-clause-slabs c = empty_slabs _ (none_there c.loop-slab.self.firsts.keys (sym c.first.ensures.first ∙ c.in_default.is))
 
 pub returns-clause-free : goal.returns-clause-free
 returns-clause-free c =

@@ -12,8 +12,7 @@ index-requires c = let last = last_below c.args.self.now.firsts.keys c.args.end 
 pub overflow_add-result : goal.overflow_add-result
 overflow_add-result c =
     let last = last_below c.args.self.now.firsts.keys c.args.end c.in-Some.slab c.in-Some.ensures.ascending (sym c.in-Some.ensures.found) in
-    let inside = (c.requires.table.kept.slab c.in-Some.slab last.there).inside in
-    record { fits = omega arith }
+    record { fits = omega (arith, (c.requires.table.kept.slab c.in-Some.slab last.there).inside) }
 
 pub returns-in-Some : goal.returns-in-Some
 returns-in-Some c =

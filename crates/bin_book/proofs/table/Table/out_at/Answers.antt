@@ -1,58 +1,29 @@
-use Rattle.bin_book.proofs.Words.{◌≡◌, ◌-◌, ◌*◌, ◌/◌, ◌%◌, false, true, sym, ◌∙◌, subst, arith, slab_filled, HasOut, IsOutAt, bits_at}
+use Rattle.bin_book.proofs.Words.{◌≡◌, ◌-◌, ◌*◌, ◌/◌, false, true, sym, ◌∙◌, arith, slab_filled, HasOut, IsOutAt, bits_at}
 use Rattle.bin_book.proofs.Holding.{out_at, out_not, out_somewhere}
 use Rattle.bin_book.proofs.table.Table.out_at.Goals.{else-has_out-via-then-has_out+else-offset-size-eq0, else-has_out-via-else-has_out}
 use Rattle.bin_book.proofs.table.Table.out_at.Goals as goal
 
 pub overflow_mul-offset : goal.overflow_mul-offset
-overflow_mul-offset c =
-    let last = c.requires.last in
-    let below = last.below in
-    let fits = c.ranges.addr.fits in
-    record { fits = omega arith }
+overflow_mul-offset c = record { fits = omega (arith, c.requires.last.below, c.ranges.addr.fits) }
 
 pub overflow_sub-offset : goal.overflow_sub-offset
-overflow_sub-offset c =
-    let last = c.requires.last in
-    let below = last.below in
-    omega arith
-
-pub has_out-requires-clause-there : goal.has_out-requires-clause-there
-has_out-requires-clause-there c = (c.requires.last).there
+overflow_sub-offset c = omega (arith, c.requires.last.below)
 
 -- what is out there
 out : (c : goal.Then-offset-size-eq0) → HasOut (bits_at c.args.self.now.slots.items c.args.slab.minor) c.args.class ((c.args.addr - 4096 * c.args.slab.major) / c.size_of-size.result)
 out c = c.has_out.ensures.0 c.if-has_out.true
 
 there : (c : goal.Then-offset-size-eq0) → IsOutAt c.args.self.now c.args.class c.args.addr c.args.slab ((c.args.addr - 4096 * c.args.slab.major) / c.size_of-size.result)
-there c =
-    let t = c.args.self.now in
-    let offset = c.args.addr - 4096 * c.args.slab.major in
-    let last = c.requires.last in
-    let e = c.size_of-size.ensures.size in
-    subst (λ s. IsOutAt t c.args.class c.args.addr c.args.slab (offset / s)) (sym e) (out_at t c.requires.table c.args.class c.args.addr c.requires.class c.args.slab last (subst (λ s. offset % s ≡ 0) e c.if-offset-size-eq0.true)
-    (subst (λ s. HasOut (bits_at t.slots.items c.args.slab.minor) c.args.class (offset / s)) e (out c)))
+there c = out_at c.args.self.now c.requires.table c.args.class c.args.addr c.requires.class c.args.slab c.requires.last c.size_of-size.result c.size_of-size.ensures.size c.if-offset-size-eq0.true (out c)
 
 pub overflow_cast-result : goal.overflow_cast-result
 overflow_cast-result c = let low = (out c).inside in let most = (slab_filled c.args.class c.requires.class).2 in record { fits = omega arith }
-
-pub returns-then-offset-size-eq0-clause-some : goal.returns-then-offset-size-eq0-clause-some
-returns-then-offset-size-eq0-clause-some c = there c
 
 pub returns-then-offset-size-eq0-clause-none : goal.returns-then-offset-size-eq0-clause-none
 returns-then-offset-size-eq0-clause-none c = out_somewhere c.args.self.now c.requires.table c.args.class c.args.addr c.args.slab _ (there c)
 
 pub returns-else-has_out-clause-none : goal.returns-else-has_out-clause-none
-returns-else-has_out-clause-none c =
-    let t = c.args.self.now in
-    let offset = c.args.addr - 4096 * c.args.slab.major in
-    let bits = bits_at t.slots.items c.args.slab.minor in
-    let last = c.requires.last in
-    let e = c.size_of-size.ensures.size in
-    let not_there = out_not t c.requires.table c.args.class c.args.addr c.requires.class c.args.slab last in
-    elim c.else-has_out.branch [
-      | else-has_out-via-then-has_out+else-offset-size-eq0 w ↦ not_there (λ whole out. w.if-offset-size-eq0.false (subst (λ s. offset % s ≡ 0) (sym e) whole))
-      | else-has_out-via-else-has_out w ↦ not_there (λ whole out.
-          let yes = c.has_out.ensures.1 (subst (λ s. HasOut bits c.args.class (offset / s)) (sym e) out) in
-          let no : false ≡ true = sym w.if-has_out.false ∙ yes in
-          cc)
-    ]
+returns-else-has_out-clause-none c = out_not c.args.self.now c.requires.table c.args.class c.args.addr c.requires.class c.args.slab c.requires.last c.size_of-size.result c.size_of-size.ensures.size (λ whole out. elim c.else-has_out.branch [
+  | else-has_out-via-then-has_out+else-offset-size-eq0 w ↦ w.if-offset-size-eq0.false whole
+  | else-has_out-via-else-has_out w ↦ let yes = c.has_out.ensures.1 out in let no : false ≡ true = sym w.if-has_out.false ∙ yes in cc
+])

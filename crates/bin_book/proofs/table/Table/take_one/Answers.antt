@@ -60,8 +60,7 @@ overflow_add-result c =
     let o = c.in_ok-slab.ensures.some in
     let is = c.requires.table.kept.slab c.in_ok-slab.slab o.there in
     let low = place_inside (bits_at t.slots.items c.in_ok-slab.slab.minor).class c.in_ok-slab.slab.major c.unwrap-region.result is.small (bits c.before.before.before.before.before.before).1 in
-    let at = addr c in
-    record { fits = omega arith }
+    record { fits = omega (arith, addr c) }
 
 pub returns : goal.returns
 returns c =
