@@ -83,30 +83,23 @@ module _ (b : Inside) (is : IsRegionBook b) where
   -- ---- regions that land
 
   module _ (client class count : ℕ) (come : List Region) (low : class < 121) (few : client < 32) (of : Every (IsOf 0 121) come) (have : HaveCome class (Some client) count rs (landing come rs)) (can : CanCome come rs) where
-    grown : CanGrow class (Some client) count b.totals
-    grown = can_grow class (Some client) count rs (landing come rs) have b.totals low (few_holders (Some client) few) is.totals (every_landing addr_of (IsOf 0 121) come rs of all_of) can.fits
+    lands : (xs' ys' : List Region) → AreApart addr_of xs' ys' × (landing come rs ≡ landing xs' ys') → Lands class (Some client) count (landing come rs) xs' ys' b.totals
+    lands xs' ys' split = record {
+      room = can_grow class (Some client) count rs (landing come rs) have b.totals low (few_holders (Some client) few) is.totals (every_landing addr_of (IsOf 0 121) come rs of all_of) can.fits;
+      apart = split.0;
+      regions = sym split.1;
+      totals = λ u more. subst (AreTotals u) split.1 (totals_more class (Some client) count rs (landing come rs) have b.totals u more is.totals);
+    }
 
     pub lands_small : (now : List Region) → now ≡ landing come ys → Lands class (Some client) count (landing come rs) xs now b.totals
     lands_small now new =
         let fresh = can_come come rs can.alone in
-        let right = land_right addr_of come xs ys is.apart fresh.0 fresh.1 in
-        subst (λ ms. Lands class (Some client) count (landing come rs) xs ms b.totals) (sym new) (record {
-          room = grown;
-          apart = right.0;
-          regions = sym right.1;
-          totals = λ u more. subst (AreTotals u) right.1 (totals_more class (Some client) count rs (landing come rs) have b.totals u more is.totals);
-        })
+        subst (λ ms. Lands class (Some client) count (landing come rs) xs ms b.totals) (sym new) (lands xs (landing come ys) (land_right addr_of come xs ys is.apart fresh.0 fresh.1))
 
     pub lands_large : (now : List Region) → now ≡ landing come xs → Lands class (Some client) count (landing come rs) now ys b.totals
     lands_large now new =
         let fresh = can_come come rs can.alone in
-        let left = land_left addr_of come xs ys is.apart fresh.0 fresh.1 in
-        subst (λ ms. Lands class (Some client) count (landing come rs) ms ys b.totals) (sym new) (record {
-          room = grown;
-          apart = left.0;
-          regions = sym left.1;
-          totals = λ u more. subst (AreTotals u) left.1 (totals_more class (Some client) count rs (landing come rs) have b.totals u more is.totals);
-        })
+        subst (λ ms. Lands class (Some client) count (landing come rs) ms ys b.totals) (sym new) (lands (landing come xs) ys (land_left addr_of come xs ys is.apart fresh.0 fresh.1))
 
   -- the first regions of an extent
   pub slab_lands : {bins : Bins} (client class addr count n : ℕ) (now : List Region) → bins ≡ record b.bins { client = client } → class < 36 → client < 32 → n ≡ count
