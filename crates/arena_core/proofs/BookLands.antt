@@ -193,10 +193,7 @@ module _ (c : ℕ) (s : Space) (test : Part → Bool) (p : Part) (class count : 
       let of = λ (x : BinSlab). eqb x.class d in
       let first = filter_swap of under slabs ∙ ap (filter under) (book.booked d low) ∙ filter_map_is (booked_slab s.regions d) under (slabs_of d s) in
       let second = filter_swap of over slabs ∙ ap (filter over) (book.booked d low) ∙ filter_map_is (booked_slab s.regions d) over (slabs_of d s) in
-      filter-append of (filter under slabs) (new ∷ filter over slabs) ∙ (λ k. first k ++ (in_front (eqb class d) (filter of (filter over slabs)) ∙ ap (λ xs. cond (eqb class d) (new ∷ []) [] ++ xs) second) k)
-    where
-      in_front : (b : Bool) (xs : List BinSlab) → cond b (new ∷ xs) xs ≡ cond b (new ∷ []) [] ++ xs
-      in_front b xs = grind arith
+      grind (arith, filter-append of (filter under slabs) (new ∷ filter over slabs), first, second)
 
   with_booked : class < 36 → IsBooked after (with_slab slabs new)
   with_booked small = record {
