@@ -172,10 +172,6 @@ keeps_all t (x ∷ xs) none = grind (arith, keeps_all t xs)
 pub at_some : {X : Type 0} (P : X → Type 0) (o : Option X) (x : X) → o ≡ Some x → IfSome o P → P x
 at_some P o x e h = subst (λ o. IfSome o P) e h
 
--- what serves regions is no more than what there is
-if_le : (b : Bool) (n : ℕ) → cond b n 0 ≤ n
-if_le b n = grind arith
-
 -- What is known inside of an extent that a caller names: it is there, lies in the space, and is within the sums.
 pub record Named (b : Inside) (p : Part) : Type 0 where
   pub there : IsThere b.book.parts p
@@ -187,7 +183,7 @@ pub record Named (b : Inside) (p : Part) : Type 0 where
 pub named : {b : Inside} {now : Book} (p : Part) → b.book ≡ now → IsExtents b → IsThere now.parts p → Named b p
 named {b} p view extents here =
     let there : IsThere b.book.parts p = subst (λ (x : Book). IsThere x.parts p) (sym view) here in
-    let active = sum_by-le-sum_by serving pages b.book.parts (λ q. if_le (is_active q.state) q.span.pages) in record {
+    let active = sum_by-le-sum_by serving pages b.book.parts (λ q. grind arith) in record {
       there = there;
       placed = there_placed b.book.parts p extents.apart there;
       within = omega (arith, sum_by-cons serving p [], find-le-sum_by serving (begins_at p.span.first) b.book.parts p there, extents.active);
@@ -205,11 +201,8 @@ joined_active p q = grind (arith, sum_by-cons serving (joined p q) [], sum_by-co
 
 -- the pieces serve what the extent served
 pub pieces_serve : (p : Part) (left : ℕ) → left < p.span.pages → active_pages (low_piece left p ∷ []) + active_pages (high_piece left p ∷ []) ≡ active_pages (p ∷ [])
-pieces_serve p left fewer = omega (arith, parted (is_active p.state) p.span.pages fewer, sum_by-cons serving p [], sum_by-cons serving (low_piece left p) [], sum_by-cons serving (high_piece left p) [])
-  where
-    parted : (b : Bool) (n : ℕ) → left < n → cond b n 0 ≡ cond b left 0 + cond b (n - left) 0
-    parted b n less = grind arith
+pieces_serve p left fewer = grind (arith, sum_by-cons serving p [], sum_by-cons serving (low_piece left p) [], sum_by-cons serving (high_piece left p) [])
 
 -- an extent serves no more than its pages
 pub serves_most : (p : Part) → active_pages (p ∷ []) ≤ p.span.pages
-serves_most p = omega (arith, sum_by-cons serving p [], if_le (is_active p.state) p.span.pages)
+serves_most p = grind (arith, sum_by-cons serving p [])

@@ -11,10 +11,10 @@ reclass-requires c =
     let h = homed c.args.client (4096 * c.args.span.first) c.args.span.first (space_of c.args.indexes.now) (λ p. same_span p.span c.args.span) c.requires.sound c.requires.home (omega arith) c.at-part.ensures.at in
     record { client = c.requires.client; page = omega (arith, h.1.placed.2, h.1.start); there = h.1.large; bytes = region_bytes_fits (space_of c.args.indexes.now) c.requires.sound; large = c.requires.large; class = c.requires.class }
 
-pub cut_off-requires-clause-fewer : goal.cut_off-requires-clause-fewer
-cut_off-requires-clause-fewer c =
+pub cut_off-requires : goal.cut_off-requires
+cut_off-requires c =
     let h = homed c.args.client (4096 * c.args.span.first) c.args.span.first (space_of c.args.indexes.now) (λ p. same_span p.span c.args.span) c.requires.sound c.requires.home (omega arith) c.at-part.ensures.at in
-    grind (arith, nat_tests, h.1.passes, c.requires.fewer)
+    record { there = c.at-part.ensures.there; room = omega (arith, c.requires.room.extents); some = c.requires.some; fewer = grind (arith, nat_tests, h.1.passes, c.requires.fewer) }
 
 pub overflow_add-result : goal.overflow_add-result
 overflow_add-result c =
