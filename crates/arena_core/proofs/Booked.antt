@@ -52,12 +52,9 @@ module _ (s : Space) (sound : Sound s) (client class count : ℕ) (small : class
   taken_places d p = λ k. record {
     class = d;
     first = p.span.first;
-    free = (filter_same (λ a. not (list_any (starts_at a) after)) (λ a. not (list_any (starts_at a) s.regions) && not (is_among addrs a)) (places d p) (λ a m. there a)
+    free = (filter_same (λ a. not (list_any (starts_at a) after)) (λ a. not (list_any (starts_at a) s.regions) && not (is_among addrs a)) (places d p) (λ a m. grind (arith, any_landing (starts_at a) (map (region_of client class) addrs) s.regions, any_map (region_of client class) (starts_at a) addrs))
         ∙ sym (filter_both (λ a. not (list_any (starts_at a) s.regions)) (λ a. not (is_among addrs a)) (places d p))) k;
   }
-    where
-      there : (a : ℕ) → not (list_any (starts_at a) after) ≡ (not (list_any (starts_at a) s.regions) && not (is_among addrs a))
-      there a = grind (arith, any_landing (starts_at a) (map (region_of client class) addrs) s.regions, any_map (region_of client class) (starts_at a) addrs)
 
   pub taken_stays : (slabs : List BinSlab) → AreBooked s slabs → AreBooked (filled s client class addrs) (map (with_regions_out addrs) slabs)
   taken_stays slabs booked d low =

@@ -123,31 +123,25 @@ alone_at s test r sound found = only_one (starts_at r.addr) test s.regions r (be
 
 -- What a resize does: a large region takes another large class in the first of the new extents, and the others that go or
 -- come serve none.
-record Resized (c addr : ℕ) (s t : Space) (home : Region × Part) (new : Part) (class : ℕ) (gone : Part → Bool) (others more : List Part) : Type 0 where
+record Resized (c addr : ℕ) (s t : Space) (r : Region) (p new : Part) (class : ℕ) (gone : Part → Bool) (others more : List Part) : Type 0 where
   sound : Sound s
   also : Sound t
-  found : large_home s c addr ≡ Some home
+  found : large_home s c addr ≡ Some (r, p)
   big : (36 ≤ class) × (class < 121)
   parts : t.parts ≡ exchanged gone s.parts (new ∷ more)
-  regions : t.regions ≡ reclassed home.0 class s.regions
-  left : (f : Part → ℕ) → sum_by f (filter gone s.parts) ≡ f home.1 + sum_by f others
+  regions : t.regions ≡ reclassed r class s.regions
+  left : (f : Part → ℕ) → sum_by f (filter gone s.parts) ≡ f p + sum_by f others
   idle : All Idle others
   still : All Idle more
-  is : new ≡ record home.1 { span = record { first = home.1.span.first; pages = new.span.pages } }
+  is : new ≡ record p { span = record { first = p.span.first; pages = new.span.pages } }
   pages : new.span.pages ≡ pages_at class
 
-resized_booked : {c addr : ℕ} {s t : Space} {home : Region × Part} {new : Part} {class : ℕ} {gone : Part → Bool} {others more : List Part} (slabs : List BinSlab) →
-    Resized c addr s t home new class gone others more → IsBooked s slabs → IsBooked t slabs
-resized_booked {c} {addr} {s} {t} {home} {new} {class} {gone} {others} {more} slabs x book = record { small = book.small; booked = λ k low. class_stays s t slabs k (parts k low) (λ q m slab. same k q) (book.booked k low) }
+resized_booked : {c addr : ℕ} {s t : Space} {r : Region} {p new : Part} {class : ℕ} {gone : Part → Bool} {others more : List Part} (slabs : List BinSlab) →
+    Resized c addr s t r p new class gone others more → IsBooked s slabs → IsBooked t slabs
+resized_booked {c} {addr} {s} {t} {r} {p} {new} {class} {gone} {others} {more} slabs x book = record { small = book.small; booked = λ k low. class_stays s t slabs k (parts k low) (λ q m slab. same k q) (book.booked k low) }
   where
-    r : Region
-    r = home.0
-
-    p : Part
-    p = home.1
-
-    of : Home c s addr home
-    of = home_found c s addr home x.found
+    of : Home c s addr (r, p)
+    of = home_found c s addr (r, p) x.found
 
     at : Housed s r p
     at = housed s (is_large_at c addr) r p x.sound of.region of.house of.large
@@ -169,10 +163,7 @@ resized_booked {c} {addr} {s} {t} {home} {new} {class} {gone} {others} {more} sl
     neither : (k : ℕ) → k < 36 → (q : Part) → is_slab k t.regions q ≡ is_slab k s.regions q
     neither k low q =
         same_any (serves_class k q) t.regions s.regions
-        (omega (arith, sums (λ y. ones (serves_class k q y)), was (λ y. ones (serves_class k q y)), other k class (houses q now) low x.big.0, other k r.class (houses q r) low of.large))
-      where
-        other : (k class : ℕ) (h : Bool) → k < 36 → 36 ≤ class → ones (eqb class k && h) ≡ 0
-        other k class h low big = grind (arith, nat_tests)
+        (grind (arith, nat_tests, sums (λ y. ones (serves_class k q y)), was (λ y. ones (serves_class k q y)), low, x.big.0, of.large))
 
     -- a region begins where one did
     same : (k : ℕ) (q : Part) → booked_slab t.regions k q ≡ booked_slab s.regions k q
@@ -218,7 +209,7 @@ join_by c s class low high (Some home) (Some q) slabs e f sound also stands are 
     let passes : same_span p.span low ≡ true = subst (λ o. found_passes (λ p. same_span p.span low) (option_map (λ x. x.1) o) ≡ true) e home_is in
     let beside : end_of p.span ≡ q.span.first = grind (arith, nat_tests, passes, to.first, stands) in
     let whole : p.span.pages + q.span.pages ≡ pages_at class = grind (arith, nat_tests, passes, to.pages, stands) in
-    resized_booked {home = home} {new = joined p q} {gone = begins_either p q} {others = q ∷ []} {more = []} slabs (record {
+    resized_booked {r = home.0} {p = home.1} {new = joined p q} {gone = begins_either p q} {others = q ∷ []} {more = []} slabs (record {
       sound = sound;
       also = also;
       found = e;
@@ -248,7 +239,7 @@ trim_by c s class span left (Some home) slabs e sound also stands are =
     let p : Part = home.1 in
     let found = home_found c s (address_of span.first) home e in
     let high : Part = taken_out c (high_piece left p) in
-    resized_booked {home = home} {new = low_piece left p} {gone = begins_at p.span.first} {others = []} {more = high ∷ []} slabs (record {
+    resized_booked {r = home.0} {p = home.1} {new = low_piece left p} {gone = begins_at p.span.first} {others = []} {more = high ∷ []} slabs (record {
       sound = sound;
       also = also;
       found = e;
