@@ -40,16 +40,13 @@ lands_first regions client class count p small most none =
     let n = regions_at class in
     let after = landing (regions_from client class (address_of first) count) regions in
     let free = λ (i : ℕ). not (list_any (starts_at (place class first i)) after) in
-    let told = λ (i : ℕ) (m : Contains (range_with_len 0 n) i).
-    ap not (any_landing (starts_at (place class first i)) (regions_from client class (address_of first) count) regions
-    ∙ (λ k. starts client class first count i small k || All-contains (λ a. list_any (starts_at a) regions ≡ false) (places class p) (place class first i) none (map_has (place class first) (range_with_len 0 n) i m) k)) ∙ twice (leb count i) in
+    let told : (i : ℕ) → Contains (range_with_len 0 n) i → free i ≡ leb count i = λ i m.
+    let new = any_landing (starts_at (place class first i)) (regions_from client class (address_of first) count) regions in
+    grind (arith, new, starts client class first count i small, All-contains (λ a. list_any (starts_at a) regions ≡ false) (places class p) (place class first i) none (map_has (place class first) (range_with_len 0 n) i m)) in
     let kept = filter_map_is (place class first) (λ a. not (list_any (starts_at a) after)) (range_with_len 0 n) in
     let high = filter_same free (λ i. leb count i) (range_with_len 0 n) told ∙ from_on 0 n count (omega arith) (omega arith) in
     let len : 0 + n - count ≡ n - count = omega arith in
     λ k. record { class = class; first = first; free = (kept ∙ ap (map (place class first)) (high ∙ ap (range_with_len count) len)) k }
-  where
-    twice : (b : Bool) → not (not b || false) ≡ b
-    twice b = grind arith
 
 -- An extent that serves no region, in which so many regions of a class may land.
 pub record Lands (c : ℕ) (s : Space) (test : Part → Bool) (p : Part) (class count : ℕ) : Type 0 where
@@ -126,14 +123,12 @@ module _ (c : ℕ) (s : Space) (test : Part → Bool) (p : Part) (class count : 
   -- no region was in the extent
   none_at : (r : Region) → Contains s.regions r → has_page (r.addr / 4096) p.span ≡ false
   none_at r m = false_from_ne_true _ (λ page.
-      let bounds = page_bounds r.addr p page in
-      let none = none_begins s test p r.addr l.sound l.found l.idle bounds.0 bounds.1 in
+      let above : 4096 * p.span.first ≤ r.addr = grind (arith, nat_tests, page) in
+      let below : r.addr < 4096 * end_of p.span = grind (arith, nat_tests, page) in
+      let none = none_begins s test p r.addr l.sound l.found l.idle above below in
       let there = any_has (λ x. eqb x.addr r.addr) s.regions r m (eqb_itself r.addr) in
       let no : true ≡ false = sym there ∙ none in
       cc)
-    where
-      page_bounds : (a : ℕ) (q : Part) → has_page (a / 4096) q.span ≡ true → (4096 * q.span.first ≤ a) × (a < 4096 * end_of q.span)
-      page_bounds a q h = (grind (arith, nat_tests), grind (arith, nat_tests))
 
   none_within : (r : Region) → Contains s.regions r → lies_in p.span r ≡ false
   none_within r m = not_so (none_at r m) (λ t. served_page active r (All-contains (λ x. x.class < 121) s.regions r l.sound.classes m) (rw (l.committed, t) refl))
@@ -193,10 +188,7 @@ module _ (c : ℕ) (s : Space) (test : Part → Bool) (p : Part) (class count : 
       let of = λ (x : BinSlab). eqb x.class d in
       let first = filter_swap of under slabs ∙ ap (filter under) (book.booked d low) ∙ filter_map_is (booked_slab s.regions d) under (slabs_of d s) in
       let second = filter_swap of over slabs ∙ ap (filter over) (book.booked d low) ∙ filter_map_is (booked_slab s.regions d) over (slabs_of d s) in
-      filter-append of (filter under slabs) (new ∷ filter over slabs) ∙ (λ k. first k ++ (in_front (eqb class d) (filter of (filter over slabs)) ∙ ap (λ xs. cond (eqb class d) (new ∷ []) [] ++ xs) second) k)
-    where
-      in_front : (b : Bool) (xs : List BinSlab) → cond b (new ∷ xs) xs ≡ cond b (new ∷ []) [] ++ xs
-      in_front b xs = grind arith
+      grind (arith, filter-append of (filter under slabs) (new ∷ filter over slabs), first, second)
 
   with_booked : class < 36 → IsBooked after (with_slab slabs new)
   with_booked small = record {

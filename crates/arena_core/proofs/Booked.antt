@@ -8,18 +8,11 @@ use Rattle.arena_core.proofs.Homes.{home_shares}
 any_inserted : (q : Region → Bool) (r : Region) (regions : List Region) → list_any q (inserted r regions) ≡ (q r || list_any q regions)
 any_inserted q r regions =
     let n = position_or_len (λ (x : Region). ltb r.addr x.addr) regions in
-    list_any-append q (take n regions) (r ∷ drop n regions) ∙ turn (list_any q (take n regions)) (q r) (list_any q (drop n regions))
-    ∙ ap (λ b. q r || b) (sym (list_any-append q (take n regions) (drop n regions)) ∙ ap (list_any q) (take-append-drop n regions))
-  where
-    turn : (a b c : Bool) → (a || (b || c)) ≡ (b || (a || c))
-    turn a b c = grind arith
+    grind (arith, list_any-append q (take n regions) (r ∷ drop n regions), list_any-append q (take n regions) (drop n regions), ap (list_any q) (take-append-drop n regions))
 
 pub any_landing : (q : Region → Bool) (come regions : List Region) → list_any q (landing come regions) ≡ (list_any q come || list_any q regions)
 any_landing q [] regions = refl
-any_landing q (r ∷ rs) regions = any_landing q rs (inserted r regions) ∙ ap (λ b. list_any q rs || b) (any_inserted q r regions) ∙ turn (list_any q rs) (q r) (list_any q regions)
-  where
-    turn : (a b c : Bool) → (a || (b || c)) ≡ ((b || a) || c)
-    turn a b c = grind arith
+any_landing q (r ∷ rs) regions = grind (arith, any_landing q rs (inserted r regions), any_inserted q r regions)
 
 -- ---- a fill
 
@@ -59,15 +52,9 @@ module _ (s : Space) (sound : Sound s) (client class count : ℕ) (small : class
   taken_places d p = λ k. record {
     class = d;
     first = p.span.first;
-    free = (filter_same (λ a. not (list_any (starts_at a) after)) (λ a. not (list_any (starts_at a) s.regions) && not (is_among addrs a)) (places d p) (λ a m. there a)
+    free = (filter_same (λ a. not (list_any (starts_at a) after)) (λ a. not (list_any (starts_at a) s.regions) && not (is_among addrs a)) (places d p) (λ a m. grind (arith, any_landing (starts_at a) (map (region_of client class) addrs) s.regions, any_map (region_of client class) (starts_at a) addrs))
         ∙ sym (filter_both (λ a. not (list_any (starts_at a) s.regions)) (λ a. not (is_among addrs a)) (places d p))) k;
   }
-    where
-      not_or : (x y : Bool) → not (x || y) ≡ (not y && not x)
-      not_or x y = grind arith
-
-      there : (a : ℕ) → not (list_any (starts_at a) after) ≡ (not (list_any (starts_at a) s.regions) && not (is_among addrs a))
-      there a = ap not (any_landing (starts_at a) (map (region_of client class) addrs) s.regions ∙ ap (λ b. b || list_any (starts_at a) s.regions) (any_map (region_of client class) (starts_at a) addrs)) ∙ not_or (is_among addrs a) (list_any (starts_at a) s.regions)
 
   pub taken_stays : (slabs : List BinSlab) → AreBooked s slabs → AreBooked (filled s client class addrs) (map (with_regions_out addrs) slabs)
   taken_stays slabs booked d low =

@@ -1,5 +1,6 @@
 -- One region is given back: its extent is the only one that can be emptied.
-use Rattle.arena_core.proofs.Words.{◌≡◌, ℕ, ◌/◌, ◌<◌, ◌≤◌, Bool, true, false, not, cond, IsTrue, List, [], ◌∷◌, append-nil, length, get_or, find, filter, Some, refl, sym, ◌∙◌, ap, subst, arith, All, ◌&&◌, ◌||◌, eqb, inl, inr, count_by, list_any, sum_by, cases_Bool, eqb-true, nat_tests, All-cons, All-filter, All-head, All-nil, All-tail, filter_passes, recursion_from_All, sum_by-filter_both, sum_by-cons, size_at, size_bounds, filter_none, Part, Region, Space, IsPlaced, has_page, begins_at, exchanged, holders, is_active, taken_out, covers, homes, houses, is_held_by, residents, starts_at, after_back, holds_at, is_emptied, is_given_back, staying, Sound, filter-begins_at, find_has, find_passes, serves, some_pages, serves-le-share, sum_nothing, only_one, filter_same, All-contains, found}
+use Rattle.arena_core.proofs.Words.{filter_has, ◌≡◌, ℕ, ◌/◌, ◌<◌, ◌≤◌, Bool, true, false, not, cond, IsTrue, List, [], ◌∷◌, append-nil, length, get_or, find, filter, Some, refl, sym, ◌∙◌, ap, subst, arith, All, ◌&&◌, eqb, inl, inr, count_by, list_any, sum_by, cases_Bool, eqb-true, nat_tests, All-cons, All-filter, All-head, All-nil, All-tail, filter_passes, recursion_from_All, sum_by-filter_both, sum_by-cons, size_at, size_bounds, filter_none, Part, Region, Space, IsPlaced, has_page, begins_at, exchanged, holders, is_active, taken_out, covers, homes, houses, is_held_by, residents, starts_at, after_back, holds_at, is_emptied, is_given_back, staying, Sound, filter-begins_at, find_has, find_passes, serves, some_pages, serves-le-share, sum_nothing, only_one, filter_same, All-contains, found}
+use Rattle.list_facts.proofs.Members.{all_from}
 pub use Rattle.space_model.proofs.Lists.{any_counts, counted_any, none_counted, ones}
 use Rattle.arena_core.proofs.Finds.{fewer_pass}
 use Rattle.arena_core.proofs.Homes.{home_shares}
@@ -31,12 +32,10 @@ some_found t (x ∷ xs) some = elim (cases_Bool (t x)) [
 
 -- what is true of those that pass and of the others is true of all
 pub All-split : {X : Type 0} (P : X → Type 0) (t : X → Bool) (xs : List X) → All P (filter t xs) → All P (filter (λ x. not (t x)) xs) → All P xs
-All-split P t [] kept left = All-nil P
-All-split P t (x ∷ xs) kept left =
-    elim (t x) as (λ b. All P (cond b (x ∷ filter t xs) (filter t xs)) → All P (cond (not b) (x ∷ filter (λ y. not (t y)) xs) (filter (λ y. not (t y)) xs)) → All P (x ∷ xs)) [
-      | true ↦ λ h k. All-cons P x xs (All-head P x (filter t xs) h) (All-split P t xs (All-tail P x (filter t xs) h) k)
-      | false ↦ λ h k. All-cons P x xs (All-head P x (filter (λ y. not (t y)) xs) k) (All-split P t xs h (All-tail P x (filter (λ y. not (t y)) xs) k))
-    ] kept left
+All-split P t xs kept left = all_from P xs (λ x m. elim (cases_Bool (t x)) [
+  | inl h ↦ All-contains P (filter t xs) x kept (filter_has t xs x m h)
+  | inr h ↦ All-contains P (filter (λ y. not (t y)) xs) x left (filter_has (λ y. not (t y)) xs x m (ap not h))
+])
 
 -- ---- the region
 
@@ -59,15 +58,12 @@ pub record Given (c addr : ℕ) (regions : List Region) (r : Region) : Type 0 wh
 pub given : (c addr : ℕ) (s : Space) → Sound s → holds_at c s.regions addr ≡ true → (r : Region) × Given c addr s.regions r
 given c addr s sound held =
     let t = is_given_back c (addr ∷ []) in
-    let same : (r : Region) → (is_held_by c r && eqb r.addr addr) ≡ t r = λ r. both (is_held_by c r) r.addr in
+    let same : (r : Region) → (is_held_by c r && eqb r.addr addr) ≡ t r = λ r. grind (arith, nat_tests) in
     let some : 0 < count_by t s.regions = any_counts t s.regions (sym (λ i. list_any (λ r. same r i) s.regions) ∙ held) in
     let fewer = fewer_pass t (starts_at addr) s.regions (λ k d h e. given_starts c addr (get_or s.regions k d) e) in
     let one = some_found t s.regions some in
     let passes = find_passes t s.regions one.0 one.1 in
     (one.0, record { alone = only_one t t s.regions one.0 (omega (arith, fewer, begins_alone s addr sound)) one.1 passes; at = eqb-true _ _ (given_starts c addr one.0 passes) })
-  where
-    both : (b : Bool) (m : ℕ) → (b && eqb m addr) ≡ (b && (eqb addr m || false))
-    both b m = grind (arith, nat_tests)
 
 -- ---- its extent
 

@@ -1,6 +1,6 @@
 -- A region that gets another holder.
-use Rattle.arena_core.proofs.Words.{◌≡◌, ℕ, ◌≤◌, Bool, true, cond, List, find, Option, None, Some, refl, sym, ◌∙◌, ap, subst, eqb, count_by, list_any, option_map, Region, held_anew, is_held_by, is_published, starts_at, holds_at, both_true, is_held_at, is_published_at, any_from, any_has, found, map_same, Contains}
-use Rattle.list_facts.proofs.Members.{only_one}
+use Rattle.arena_core.proofs.Words.{◌≡◌, ℕ, ◌≤◌, Bool, true, cond, List, find, Option, Some, sym, ◌∙◌, ap, subst, eqb, count_by, list_any, option_map, Region, held_anew, is_held_by, is_published, starts_at, holds_at, both_true, is_held_at, is_published_at, any_from, any_has, found, map_same, Contains}
+use Rattle.list_facts.proofs.Members.{mapped_some, only_one}
 use Rattle.arena_core.proofs.Booked.{both_ways}
 
 -- one region that passes a test is the only one at its address, so it alone changes by either
@@ -25,11 +25,7 @@ held_there c addr regions h =
 
 pub published_there : {o : Option ℕ} {class : ℕ} (addr : ℕ) (regions : List Region) → o ≡ option_map (λ r. r.class) (find (is_published_at addr) regions) → o ≡ Some class →
     (r : Region) × (find (is_published_at addr) regions ≡ Some r) × (r.class ≡ class) × (list_any (is_published_at addr) regions ≡ true) × (list_any (starts_at addr) regions ≡ true)
-published_there {o} {class} addr regions told is = by (find (is_published_at addr) regions) refl (sym told ∙ is)
-  where
-    by : (u : Option Region) → find (is_published_at addr) regions ≡ u → option_map (λ r. r.class) u ≡ Some class →
-        (r : Region) × (find (is_published_at addr) regions ≡ Some r) × (r.class ≡ class) × (list_any (is_published_at addr) regions ≡ true) × (list_any (starts_at addr) regions ≡ true)
-    by None e k = absurd (cc)
-    by (Some r) e k =
-        let at = found (is_published_at addr) regions r e in
-        (r, e, cc, any_has (is_published_at addr) regions r at.0 at.1, any_has (starts_at addr) regions r at.0 (published_at addr r at.1))
+published_there {o} {class} addr regions told is =
+    let one = mapped_some (λ (r : Region). r.class) (find (is_published_at addr) regions) class (sym told ∙ is) in
+    let at = found (is_published_at addr) regions one.0 one.1 in
+    (one.0, one.1, one.2, any_has (is_published_at addr) regions one.0 at.0 at.1, any_has (starts_at addr) regions one.0 at.0 (published_at addr one.0 at.1))

@@ -1,5 +1,5 @@
 -- The extent that serves a region is the one that has the page of its address.
-use Rattle.arena_core.proofs.Words.{◌≡◌, ℕ, ◌*◌, ◌/◌, ◌<◌, ◌≤◌, Bool, true, false, cond, IsTrue, List, [], ◌∷◌, get_or, find, Some, sym, ap, arith, eqb, inl, inr, ◌&&◌, list_any, sum_by, cases_Bool, nat_tests, list_any_none, sum_by-cons, sum_by-le-sum_by, size_at, size_bounds, Part, Answer, Merge, Region, Span, Space, IsPlaced, end_of, has_page, holders, is_active, is_flight, is_flight_at, covers, homes, is_yes_or_no, merge_stands, Sound, find_has, find_passes, share, idle-serves, serves, serves-le-share, both_true, flight-idle, AreBeside, Contains, contains_cases, found}
+use Rattle.arena_core.proofs.Words.{false_from_ne_true, ◌≡◌, ℕ, ◌*◌, ◌/◌, ◌<◌, ◌≤◌, Bool, true, false, cond, IsTrue, List, [], ◌∷◌, get_or, find, Some, sym, ap, arith, eqb, ◌&&◌, list_any, sum_by, nat_tests, list_any_none, sum_by-cons, sum_by-le-sum_by, size_at, size_bounds, Part, Answer, Merge, Region, Span, Space, IsPlaced, end_of, has_page, holders, is_active, is_flight, is_flight_at, covers, homes, is_yes_or_no, merge_stands, Sound, find_has, find_passes, share, idle-serves, serves, serves-le-share, both_true, flight-idle, AreBeside, Contains, contains_cases, found}
 
 -- where a sum is no more than that of smaller terms, each term is no more than the smaller one
 exact_of : {X : Type 0} (f g : X → ℕ) (xs : List X) (x : X) → ((y : X) → g y ≤ f y) → sum_by f xs ≤ sum_by g xs → Contains xs x → f x ≤ g x
@@ -22,15 +22,12 @@ none_begins s test p addr sound told idle above below =
     let ones : Bool → ℕ = λ b. cond b 1 0 in
     list_any_none (λ r. eqb r.addr addr) s.regions (λ k d h.
     let r : Region = get_or s.regions k d in
-    elim (cases_Bool (eqb r.addr addr)) [
-      | inr f ↦ f
-      | inl t ↦
-          let at : r.addr ≡ addr = grind (arith, nat_tests) in
-          let has : has_page (r.addr / 4096) p.span ≡ true = grind (arith, nat_tests, at, above, below) in
-          let one : share (r.addr / 4096) p ≡ 1 = ap ones has in
-          let same = home_shares r s.parts p (sound.classes k d h) (sound.homes k d h) (sound.owners (r.addr / 4096)) (found test s.parts p told).0 in
-          absurd (omega (arith, one, idle-serves p r idle, same))
-    ])
+    false_from_ne_true _ (λ t.
+    let at : r.addr ≡ addr = grind (arith, nat_tests) in
+    let has : has_page (r.addr / 4096) p.span ≡ true = grind (arith, nat_tests, at, above, below) in
+    let one : share (r.addr / 4096) p ≡ 1 = ap ones has in
+    let same = home_shares r s.parts p (sound.classes k d h) (sound.homes k d h) (sound.owners (r.addr / 4096)) (found test s.parts p told).0 in
+    omega (arith, one, idle-serves p r idle, same)))
 
 -- What is true of a client's extent in flight that was found.
 pub record InFlight (c : ℕ) (s : Space) (span : Span) (p : Part) : Type 0 where

@@ -40,11 +40,7 @@ fitting c s span class count p sound stands found =
       last = flight.placed.2;
       large = λ big.
           let one : most_regions class ≡ 1 = grind (arith, nat_tests, big) in
-          let most = may.3 in
-          let some = may.2 in
-          let end = flight.placed.2 in
-          let pages_some = flight.placed in
-          (omega (arith, one, most, some), omega (arith, end, pages_some.0));
+          (omega (arith, one, may.3, may.2), omega (arith, flight.placed.2, flight.placed.0));
       come = λ live.
           let may : op_stands s c (Land span class count) ≡ true = rw live stands in
           can_come s (land_at s c class count (Some p)).after (regions_from c class (address_of p.span.first) count)

@@ -1,5 +1,5 @@
 -- What a step leaves: its outcome for the space, and the body as it shall be.
-use Rattle.arena_core.proofs.Words.{◌≡◌, ◌≢◌, ◌∙◌, ◌⊎◌, inl, inr, ℕ, ◌<◌, IsTrue, List, [], ◌∷◌, ◌++◌, nat_lt, Result, Ok, Err, IfOk, OnOk, OnErr, length, refl, sym, ap, subst, arith, ltb-true, get_or-set_other, get_or-set_same, length-set, Entry, Op, Reply, Space, op_stands, reply_to, space_after, stands, Sound, absent_space, first_space, new_pace, Good, mine, both_true, Outcome, Outcome-good, Outcome-others, Outcome-sound, absent_replays_are_good, first_replays_are_good, Body, IsBody, IsReady, Standing, entry_of, room_after, room_of, rooms_after, standing_of, space_of, IsBooked}
+use Rattle.arena_core.proofs.Words.{◌≡◌, ◌≢◌, ◌∙◌, ◌⊎◌, inl, inr, ℕ, ◌<◌, IsTrue, List, [], ◌∷◌, ◌++◌, nat_lt, Result, Ok, Err, IfOk, OnOk, OnErr, length, refl, sym, ap, subst, arith, ltb-true, get_or-set_other, get_or-set_same, length-set, Entry, Op, Reply, Space, op_stands, reply_to, space_after, stands, Sound, absent_space, first_space, new_pace, Good, mine, both_true, Outcome, Outcome-good, Outcome-others, Outcome-sound, absent_replays_are_good, first_replays_are_good, Body, IsBody, Standing, entry_of, Turns, room_after, room_of, rooms_after, standing_of, space_of}
 
 -- What a step leaves of a body that callers see as `a`.
 pub record Stepped {E : Type 0} (a : Standing) (new : Body) (client : ℕ) (op : Op) (r : Result Reply E) : Type 0 where
@@ -13,46 +13,42 @@ pub record Stepped {E : Type 0} (a : Standing) (new : Body) (client : ℕ) (op :
   pub good : (turns : List (Entry × Reply)) → Good turns a.space → IfOk r (λ told. Good (turns ++ (entry_of client op, told) ∷ []) (space_of new.indexes))
   pub others : (other : ℕ) → other ≢ client → mine other (space_of new.indexes) ≡ mine other a.space
 
-pub stepped : {E : Type 0} {old new : Body} {a : Standing} {r : Result Reply E} (client : ℕ) (op : Op) → standing_of old ≡ a → IsBody old →
-    IsTrue (stands a.space (entry_of client op)) → OnOk r (space_of new.indexes ≡ space_after (space_of old.indexes) (entry_of client op)) →
-    IfOk r (λ told. told ≡ reply_to (space_of old.indexes) (entry_of client op)) → OnOk r (new.rooms ≡ rooms_after (standing_of old) client op) →
-    OnErr r (standing_of new ≡ standing_of old) → IsReady new → IsBooked (space_of new.indexes) new.indexes.regions.slabs → Stepped a new client op r
-stepped {E} {old} {new} {a} {r} client op view body stands_now after told rooms same ready booked =
+pub stepped : {E : Type 0} {old new : Body} {a : Standing} {r : Result Reply E} (client : ℕ) (op : Op) → standing_of old ≡ a → IsBody old → IsTrue (stands a.space (entry_of client op)) →
+    Turns old new client op r → Stepped a new client op r
+stepped {E} {old} {new} {a} {r} client op view body stands_now t =
     let s : Space = space_of old.indexes in
-    let t : Space = space_of new.indexes in
     let may = subst (λ (x : Standing). IsTrue (stands x.space (entry_of client op))) (sym view) stands_now in
     let few : client < 32 = ltb-true client 32 (both_true (nat_lt client 32) (op_stands s client op) may).0 in
-    let out : Outcome s t (entry_of client op) r = record { after = after; told = told; same = on_err r same } in
+    let left = rooms r few t.rooms t.err in
+    let out : Outcome s (space_of new.indexes) (entry_of client op) r = record { after = t.after; told = t.reply; same = left.3 } in
     let by : Stepped (standing_of old) new client op r = record {
-      body = record { sound = Outcome-sound s t (entry_of client op) r out body.sound may; clients = clients r rooms same; ready = ready; booked = booked };
-      after = after;
-      reply = told;
-      room = room_is r few rooms;
-      other_rooms = λ other differ. stays r other differ rooms same;
-      rooms = rooms;
-      err = same;
-      good = λ turns. Outcome-good s t (entry_of client op) r out may turns;
-      others = Outcome-others s t (entry_of client op) r out body.sound may;
+      body = record { sound = Outcome-sound s (space_of new.indexes) (entry_of client op) r out body.sound may; clients = left.0; ready = t.ready; booked = t.booked };
+      after = t.after;
+      reply = t.reply;
+      room = left.1;
+      other_rooms = left.2;
+      rooms = t.rooms;
+      err = t.err;
+      good = λ turns. Outcome-good s (space_of new.indexes) (entry_of client op) r out may turns;
+      others = Outcome-others s (space_of new.indexes) (entry_of client op) r out body.sound may;
     } in
     subst (λ x. Stepped x new client op r) view by
   where
-    on_err : (r : Result Reply E) → OnErr r (standing_of new ≡ standing_of old) → OnErr r (space_of new.indexes ≡ space_of old.indexes)
-    on_err (Ok x) h = tt
-    on_err (Err e) h = ap (λ (x : Standing). x.space) h
-
-    clients : (r : Result Reply E) → OnOk r (new.rooms ≡ rooms_after (standing_of old) client op) → OnErr r (standing_of new ≡ standing_of old) → length new.rooms ≡ 32
-    clients (Ok x) h k = ap length h ∙ length-set old.rooms client _ ∙ body.clients
-    clients (Err e) h k = ap (λ (x : Standing). length x.rooms) k ∙ body.clients
-
-    room_is : (r : Result Reply E) → client < 32 → OnOk r (new.rooms ≡ rooms_after (standing_of old) client op) →
-        OnOk r (room_of client new.rooms ≡ room_after (space_of old.indexes) (room_of client old.rooms) client op)
-    room_is (Ok x) few h = ap (room_of client) h ∙ get_or-set_same old.rooms client _ 0 (omega (arith, few, body.clients))
-    room_is (Err e) few h = tt
-
-    stays : (r : Result Reply E) (other : ℕ) → other ≢ client → OnOk r (new.rooms ≡ rooms_after (standing_of old) client op) →
-        OnErr r (standing_of new ≡ standing_of old) → room_of other new.rooms ≡ room_of other old.rooms
-    stays (Ok x) other differ h k = ap (room_of other) h ∙ get_or-set_other old.rooms client other _ 0 differ
-    stays (Err e) other differ h k = ap (λ (x : Standing). room_of other x.rooms) k
+    rooms : (r : Result Reply E) → client < 32 → OnOk r (new.rooms ≡ rooms_after (standing_of old) client op) → OnErr r (standing_of new ≡ standing_of old) →
+        (length new.rooms ≡ 32) × OnOk r (room_of client new.rooms ≡ room_after (space_of old.indexes) (room_of client old.rooms) client op)
+        × ((other : ℕ) → other ≢ client → room_of other new.rooms ≡ room_of other old.rooms) × OnErr r (space_of new.indexes ≡ space_of old.indexes)
+    rooms (Ok x) few h k = (
+      ap length h ∙ length-set old.rooms client _ ∙ body.clients,
+      ap (room_of client) h ∙ get_or-set_same old.rooms client _ 0 (omega (arith, few, body.clients)),
+      λ other differ. ap (room_of other) h ∙ get_or-set_other old.rooms client other _ 0 differ,
+      tt,
+    )
+    rooms (Err e) few h k = (
+      ap (λ (x : Standing). length x.rooms) k ∙ body.clients,
+      tt,
+      λ other differ. ap (λ (x : Standing). room_of other x.rooms) k,
+      ap (λ (x : Standing). x.space) k,
+    )
 
 -- the space of an arena that begins is sound
 abbrev opened : Space → Space

@@ -1,5 +1,5 @@
 -- A large region that takes another class: its extent is the one that begins at its address, and the slabs stay.
-use Rattle.arena_core.proofs.Words.{◌≡◌, ℕ, ◌*◌, ◌/◌, ◌<◌, ◌≤◌, Bool, true, false, not, IsTrue, List, [], ◌∷◌, get_or, find, filter, Option, None, Some, refl, sym, ◌∙◌, ap, subst, arith, ◌&&◌, nat_le, ◌+◌, All, Contains, take, drop, eqb, nat_lt, list_any, position_or_len, sum_by, IsSome, option_map, eqb-true, leb-true, ltb-true, nat_tests, sum_by-filter_both, sum_by-cons, sum_by-insert, pages_at, large_size, size_bounds, Ask, Split, Merge, Answer, Done, Refuses, Span, Part, Region, Space, IsPlaced, same_span, end_of, begins_at, is_active, exchanged, is_flight_at, taken_out, houses, inserted, is_held_by, starts_at, address_of, is_slab, lies_in, has_large, is_large_at, large_home, reclassed, trim_answered, trim_done_stands, trimmed_at, after_join, after_trim_done, is_large_class, join_stands, widened_at, holds_at, found_passes, Sound, nothing_sum, only_one, both_true, two_left, home_found, housed, All-cons, All-contains_itself, All-nil, Contains-append_right, is_in, without_client, one_left, filter_nothing, find_has, find_passes, eqb_itself, lies_between, BinSlab, filter_same, head, booked_slab, IsBooked, begins_either, high_piece, is_yes_or_no, joined, low_piece, any_has, found, Home, Housed}
+use Rattle.arena_core.proofs.Words.{◌≡◌, ℕ, ◌*◌, ◌/◌, ◌<◌, ◌≤◌, Bool, true, false, not, IsTrue, List, [], ◌∷◌, get_or, find, filter, Option, None, Some, refl, sym, ◌∙◌, ap, subst, arith, ◌&&◌, nat_le, ◌+◌, All, Contains, take, drop, eqb, nat_lt, list_any, position_or_len, sum_by, IsSome, option_map, eqb-true, nat_tests, sum_by-filter_both, sum_by-cons, sum_by-insert, pages_at, large_size, size_bounds, Ask, Split, Merge, Answer, Done, Refuses, Span, Part, Region, Space, IsPlaced, same_span, end_of, begins_at, is_active, exchanged, is_flight_at, taken_out, houses, inserted, is_held_by, starts_at, address_of, is_slab, lies_in, has_large, is_large_at, large_home, reclassed, trim_answered, trim_done_stands, trimmed_at, after_join, after_trim_done, is_large_class, join_stands, widened_at, holds_at, found_passes, Sound, nothing_sum, only_one, both_true, two_left, home_found, housed, All-cons, All-contains_itself, All-nil, Contains-append_right, without_client, one_left, filter_nothing, find_has, find_passes, eqb_itself, lies_between, BinSlab, filter_same, head, booked_slab, IsBooked, begins_either, high_piece, joined, low_piece, any_has, found, Home, Housed}
 use Rattle.arena_core.proofs.Emptying.{begins_alone, ones}
 use Rattle.arena_core.proofs.Finds.{found_there}
 use Rattle.arena_core.proofs.Booked.{class_stays, idle_no_slab, no_slab, same_slab}
@@ -56,29 +56,20 @@ homed_by c addr s test (Some home) e sound h =
     )
 
 -- the extent is there
-pub home_begins : (c addr : ℕ) (s : Space) (test : Part → Bool) → Sound s → has_large s c addr test ≡ true → IsSome (find (begins_at (addr / 4096)) s.parts)
-home_begins c addr s test sound h = let home = homed_by c addr s test (large_home s c addr) refl sound h in rw home.1.begins refl
+pub home_begins : (c addr page : ℕ) (s : Space) (test : Part → Bool) → Sound s → has_large s c addr test ≡ true → addr / 4096 ≡ page → IsSome (find (begins_at page) s.parts)
+home_begins c addr page s test sound h is =
+    let home = homed_by c addr s test (large_home s c addr) refl sound h in
+    let there : IsSome (find (begins_at (addr / 4096)) s.parts) = rw home.1.begins refl in
+    subst (λ n. IsSome (find (begins_at n) s.parts)) is there
 
 -- as a program reads it, which looked it up by its first page
-pub homed : {p : Part} (c addr : ℕ) (s : Space) (test : Part → Bool) → Sound s → has_large s c addr test ≡ true → find (begins_at (addr / 4096)) s.parts ≡ Some p →
+pub homed : {p : Part} (c addr page : ℕ) (s : Space) (test : Part → Bool) → Sound s → has_large s c addr test ≡ true → addr / 4096 ≡ page → find (begins_at page) s.parts ≡ Some p →
     (r : Region) × Homed c addr s test (r, p)
-homed {p} c addr s test sound h read =
+homed {p} c addr page s test sound h is read =
     let home = homed_by c addr s test (large_home s c addr) refl sound h in
-    let both : Some home.0.1 ≡ Some p = sym home.1.begins ∙ read in
+    let both : Some home.0.1 ≡ Some p = sym home.1.begins ∙ ap (λ n. find (begins_at n) s.parts) is ∙ read in
     let same : home.0.1 ≡ p = cc in
     (home.0.0, subst (λ (q : Part). Homed c addr s test (home.0.0, q)) same home.1)
-
--- so it is where the address is that of a page
-pub page_begins : (c page : ℕ) (s : Space) (test : Part → Bool) → Sound s → has_large s c (4096 * page) test ≡ true → IsSome (find (begins_at page) s.parts)
-page_begins c page s test sound h =
-    let same : 4096 * page / 4096 ≡ page = omega arith in
-    subst (λ n. IsSome (find (begins_at n) s.parts)) same (home_begins c (4096 * page) s test sound h)
-
-pub page_homed : {p : Part} (c page : ℕ) (s : Space) (test : Part → Bool) → Sound s → has_large s c (4096 * page) test ≡ true → find (begins_at page) s.parts ≡ Some p →
-    (r : Region) × Homed c (4096 * page) s test (r, p)
-page_homed {p} c page s test sound h read =
-    let same : page ≡ 4096 * page / 4096 = omega arith in
-    homed c (4096 * page) s test sound h (subst (λ n. find (begins_at n) s.parts ≡ Some p) same read)
 
 -- ---- another class
 
@@ -106,6 +97,7 @@ pub record Shrinks (c class : ℕ) (s : Space) (span : Span) (left : ℕ) : Type
   pub fewer : left < span.pages
   pub large : 36 ≤ class
   pub within : class < 121
+  pub exact : left ≡ pages_at class
 
 pub shrinks : (c class : ℕ) (s : Space) (ask : Ask) (answer : Answer) (span : Span) (left : ℕ) → ask ≡ Split span left → IsTrue (trim_done_stands s c class ask answer) → Shrinks c class s span left
 shrinks c class s ask answer span left is stands =
@@ -118,6 +110,7 @@ shrinks c class s ask answer span left is stands =
       fewer = grind (arith, nat_tests, may);
       large = large;
       within = within;
+      exact = exact;
     }
 
 -- whether the extent serves the region, which is of the class
@@ -130,31 +123,25 @@ alone_at s test r sound found = only_one (starts_at r.addr) test s.regions r (be
 
 -- What a resize does: a large region takes another large class in the first of the new extents, and the others that go or
 -- come serve none.
-record Resized (c addr : ℕ) (s t : Space) (home : Region × Part) (new : Part) (class : ℕ) (gone : Part → Bool) (others more : List Part) : Type 0 where
+record Resized (c addr : ℕ) (s t : Space) (r : Region) (p new : Part) (class : ℕ) (gone : Part → Bool) (others more : List Part) : Type 0 where
   sound : Sound s
   also : Sound t
-  found : large_home s c addr ≡ Some home
+  found : large_home s c addr ≡ Some (r, p)
   big : (36 ≤ class) × (class < 121)
   parts : t.parts ≡ exchanged gone s.parts (new ∷ more)
-  regions : t.regions ≡ reclassed home.0 class s.regions
-  left : (f : Part → ℕ) → sum_by f (filter gone s.parts) ≡ f home.1 + sum_by f others
+  regions : t.regions ≡ reclassed r class s.regions
+  left : (f : Part → ℕ) → sum_by f (filter gone s.parts) ≡ f p + sum_by f others
   idle : All Idle others
   still : All Idle more
-  is : new ≡ record home.1 { span = record { first = home.1.span.first; pages = new.span.pages } }
+  is : new ≡ record p { span = record { first = p.span.first; pages = new.span.pages } }
   pages : new.span.pages ≡ pages_at class
 
-resized_booked : {c addr : ℕ} {s t : Space} {home : Region × Part} {new : Part} {class : ℕ} {gone : Part → Bool} {others more : List Part} (slabs : List BinSlab) →
-    Resized c addr s t home new class gone others more → IsBooked s slabs → IsBooked t slabs
-resized_booked {c} {addr} {s} {t} {home} {new} {class} {gone} {others} {more} slabs x book = record { small = book.small; booked = λ k low. class_stays s t slabs k (parts k low) (λ q m slab. same k q) (book.booked k low) }
+resized_booked : {c addr : ℕ} {s t : Space} {r : Region} {p new : Part} {class : ℕ} {gone : Part → Bool} {others more : List Part} (slabs : List BinSlab) →
+    Resized c addr s t r p new class gone others more → IsBooked s slabs → IsBooked t slabs
+resized_booked {c} {addr} {s} {t} {r} {p} {new} {class} {gone} {others} {more} slabs x book = record { small = book.small; booked = λ k low. class_stays s t slabs k (parts k low) (λ q m slab. same k q) (book.booked k low) }
   where
-    r : Region
-    r = home.0
-
-    p : Part
-    p = home.1
-
-    of : Home c s addr home
-    of = home_found c s addr home x.found
+    of : Home c s addr (r, p)
+    of = home_found c s addr (r, p) x.found
 
     at : Housed s r p
     at = housed s (is_large_at c addr) r p x.sound of.region of.house of.large
@@ -176,10 +163,7 @@ resized_booked {c} {addr} {s} {t} {home} {new} {class} {gone} {others} {more} sl
     neither : (k : ℕ) → k < 36 → (q : Part) → is_slab k t.regions q ≡ is_slab k s.regions q
     neither k low q =
         same_any (serves_class k q) t.regions s.regions
-        (omega (arith, sums (λ y. ones (serves_class k q y)), was (λ y. ones (serves_class k q y)), other k class (houses q now) low x.big.0, other k r.class (houses q r) low of.large))
-      where
-        other : (k class : ℕ) (h : Bool) → k < 36 → 36 ≤ class → ones (eqb class k && h) ≡ 0
-        other k class h low big = grind (arith, nat_tests)
+        (grind (arith, nat_tests, sums (λ y. ones (serves_class k q y)), was (λ y. ones (serves_class k q y)), low, x.big.0, of.large))
 
     -- a region begins where one did
     same : (k : ℕ) (q : Part) → booked_slab t.regions k q ≡ booked_slab s.regions k q
@@ -212,47 +196,31 @@ resized_booked {c} {addr} {s} {t} {home} {new} {class} {gone} {others} {more} sl
 
 -- ---- the answers
 
--- what is said of a class that is large
-is_large : (class : ℕ) → is_large_class class ≡ true → (36 ≤ class) × (class < 121)
-is_large class h = let both = both_true (nat_le 36 class) _ h in (leb-true _ _ both.0, ltb-true _ _ both.1)
-
--- the extent of a region that was found passes what was tested
-home_passes : (c addr : ℕ) (s : Space) (span : Span) (home : Region × Part) → large_home s c addr ≡ Some home → has_large s c addr (λ p. same_span p.span span) ≡ true →
-    (home.1.span.first ≡ span.first) × (home.1.span.pages ≡ span.pages)
-home_passes c addr s span home e h =
-    let passes : same_span home.1.span span ≡ true = subst (λ o. found_passes (λ p. same_span p.span span) (option_map (λ x. x.1) o) ≡ true) e h in
-    let both = both_true (eqb home.1.span.first span.first) _ passes in
-    (eqb-true _ _ both.0, eqb-true _ _ both.1)
-
 join_by : (c : ℕ) (s : Space) (class : ℕ) (low high : Span) (o : Option (Region × Part)) (u : Option Part) (slabs : List BinSlab) → large_home s c (address_of low.first) ≡ o →
     find (is_flight_at c high) s.parts ≡ u → Sound s → Sound (widened_at s class o u).after → join_stands s c class (Merge low high) Done ≡ true → IsBooked s slabs →
     IsBooked (widened_at s class o u).after slabs
 join_by c s class low high None u slabs e f sound also stands are = are
 join_by c s class low high (Some home) None slabs e f sound also stands are = are
 join_by c s class low high (Some home) (Some q) slabs e f sound also stands are =
-    let t1 = both_true (is_large_class class && eqb (low.pages + high.pages) (pages_at class) && eqb (end_of low) high.first && has_large s c (address_of low.first) (λ p. same_span p.span low)) _ stands in
-    let t2 = both_true (is_large_class class && eqb (low.pages + high.pages) (pages_at class) && eqb (end_of low) high.first) _ t1.0 in
-    let t3 = both_true (is_large_class class && eqb (low.pages + high.pages) (pages_at class)) _ t2.0 in
-    let t4 = both_true (is_large_class class) _ t3.0 in
+    let home_is = (both_true (is_large_class class && eqb (low.pages + high.pages) (pages_at class) && eqb (end_of low) high.first) _ (both_true _ _ stands).0).1 in
     let p : Part = home.1 in
     let found = home_found c s (address_of low.first) home e in
     let to = in_flight c s high q sound (sym f) in
-    let passed = home_passes c (address_of low.first) s low home e t2.1 in
-    let whole : low.pages + high.pages ≡ pages_at class = eqb-true _ _ t4.1 in
-    let side : end_of low ≡ high.first = eqb-true _ _ t3.1 in
-    let beside : end_of p.span ≡ q.span.first = omega (arith, passed.0, passed.1, to.first, side) in
-    resized_booked {home = home} {new = joined p q} {gone = begins_either p q} {others = q ∷ []} {more = []} slabs (record {
+    let passes : same_span p.span low ≡ true = subst (λ o. found_passes (λ p. same_span p.span low) (option_map (λ x. x.1) o) ≡ true) e home_is in
+    let beside : end_of p.span ≡ q.span.first = grind (arith, nat_tests, passes, to.first, stands) in
+    let whole : p.span.pages + q.span.pages ≡ pages_at class = grind (arith, nat_tests, passes, to.pages, stands) in
+    resized_booked {r = home.0} {p = home.1} {new = joined p q} {gone = begins_either p q} {others = q ∷ []} {more = []} slabs (record {
       sound = sound;
       also = also;
       found = e;
-      big = is_large class t4.0;
+      big = (grind (arith, nat_tests, stands), grind (arith, nat_tests, stands));
       parts = refl;
       regions = refl;
       left = λ g. omega (arith, two_left s (λ x. houses x home.0) (is_flight_at c high) p q sound found.house f beside g, sum_by-cons g p (q ∷ []));
       idle = All-cons Idle q [] to.idle (All-nil Idle);
       still = All-nil Idle;
       is = refl;
-      pages = omega (arith, passed.1, to.pages, whole);
+      pages = whole;
     }) are
 
 pub join_step : (c : ℕ) (s : Space) (class : ℕ) (ask : Ask) (answer : Answer) (slabs : List BinSlab) → Sound s → Sound (after_join s c class ask answer).after → join_stands s c class ask answer ≡ true →
@@ -267,25 +235,22 @@ trim_by : (c : ℕ) (s : Space) (class : ℕ) (span : Span) (left : ℕ) (o : Op
     IsBooked (trimmed_at (record s { trims = without_client c s.trims }) c left class o).after slabs
 trim_by c s class span left None slabs e sound also stands are = still_booked s _ slabs are (still s _ refl refl)
 trim_by c s class span left (Some home) slabs e sound also stands are =
-    let t1 = both_true (is_yes_or_no Done && is_in c s.trims && is_large_class class && eqb left (pages_at class) && nat_lt left span.pages) _ stands in
-    let t2 = both_true (is_yes_or_no Done && is_in c s.trims && is_large_class class && eqb left (pages_at class)) _ t1.0 in
-    let t3 = both_true (is_yes_or_no Done && is_in c s.trims && is_large_class class) _ t2.0 in
-    let class_is = (both_true (is_yes_or_no Done && is_in c s.trims) _ t3.0).1 in
+    let may = shrinks c class s (Split span left) Done span left refl stands in
     let p : Part = home.1 in
     let found = home_found c s (address_of span.first) home e in
     let high : Part = taken_out c (high_piece left p) in
-    resized_booked {home = home} {new = low_piece left p} {gone = begins_at p.span.first} {others = []} {more = high ∷ []} slabs (record {
+    resized_booked {r = home.0} {p = home.1} {new = low_piece left p} {gone = begins_at p.span.first} {others = []} {more = high ∷ []} slabs (record {
       sound = sound;
       also = also;
       found = e;
-      big = is_large class class_is;
+      big = (may.large, may.within);
       parts = refl;
       regions = refl;
       left = λ g. omega (arith, one_left s (λ x. houses x home.0) p sound found.house g, sum_by-cons g p []);
       idle = All-nil Idle;
       still = All-cons Idle high [] refl (All-nil Idle);
       is = refl;
-      pages = eqb-true _ _ t3.1;
+      pages = may.exact;
     }) are
 
 pub trim_step : (c : ℕ) (s : Space) (class : ℕ) (ask : Ask) (answer : Answer) (slabs : List BinSlab) → Sound s → Sound (after_trim_done s c class ask answer).after → trim_done_stands s c class ask answer ≡ true →

@@ -1,5 +1,5 @@
 -- The sum of all rooms where one of them changes.
-use Rattle.arena_core.proofs.Words.{◌≡◌, ℕ, ◌+◌, ◌<◌, ◌≤◌, false, List, length, slice_set, refl, arith, sum_by-set, Op, Back, Space, all_rooms, emptied_by_op, is_return, room_of, Indexes, HasPlaces}
+use Rattle.arena_core.proofs.Words.{◌≡◌, ℕ, ◌+◌, ◌<◌, ◌≤◌, false, List, length, slice_set, refl, arith, sum_by-set, Op, Back, Space, all_rooms, emptied_by_op, is_return, room_of, Indexes, HasPlaces, Does, Takes, BinSlab, Stepped, Reply}
 
 -- the sum with a client's new room, and its old one
 pub rooms_with : (rooms : List ℕ) (client room : ℕ) → client < length rooms → all_rooms (slice_set rooms client room) + room_of client rooms ≡ all_rooms rooms + room
@@ -14,8 +14,8 @@ pub places_fewer : (i : Indexes) (few more : ℕ) → few ≤ more → HasPlaces
 places_fewer i few more le h = record { extents = omega (arith, h.extents); regions = omega (arith, h.regions); offers = omega (arith, h.offers) }
 
 -- an operation that takes no place leaves one less than there were
-pub places_kept : {i j : Indexes} → ((n : ℕ) → HasPlaces i n → HasPlaces j n) → (n : ℕ) → HasPlaces i (n + 1) → HasPlaces j n
-places_kept {i} keeps n h = keeps n (places_fewer i n (n + 1) (omega arith) h)
+pub taken : {i j : Indexes} {book : List BinSlab} {step : Stepped} {told : Reply} → Does i j book step told → Takes i j book step told
+taken {i} h = record { after = h.after; reply = h.reply; slabs = h.slabs; places = λ n k. h.places n (places_fewer i n (n + 1) (omega arith) k) }
 
 -- an operation that is no return empties nothing
 pub empties_nothing : (client : ℕ) (op : Op) (s : Space) → is_return op ≡ false → emptied_by_op client op s ≡ 0

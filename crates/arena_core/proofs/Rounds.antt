@@ -1,5 +1,5 @@
 -- Extents that change and regions that are given back, one after the other from the lowest on.
-use Rattle.arena_core.proofs.Words.{◌≡◌, ℕ, ◌+◌, ◌<◌, ◌≤◌, Bool, true, false, cond, not, List, [], ◌∷◌, ◌++◌, append_assoc, append-nil, length, get_or, filter, refl, sym, ◌∙◌, ap, subst, arith, All, inl, inr, ◌*◌, IsTrue, ◌&&◌, ◌||◌, eqb, nat_le, drop, add-one, drop-cons, count_by, list_all, list_any, cases_Bool, not-true, nat_tests, All-append, All-cons, All-filter, All-head, All-nil, All-tail, filter-append, filter_passes, All-weaker, length-filter_both, sum_by-filter_both, sum_by-cons, Part, IsPlaced, end_of, begins_at, exchanged, turned, turned_in_order, is_active, taken_out, Span, filter-begins_at, filter-without, share, some_pages, serves, filter_swap, filter_both, IsApart, IsThere, drop_all, Region, Space, houses, is_held_by, residents, after_back, holds_at, is_emptied, is_given_back, is_live, rises_from, staying, taken_in_order, Sound, lawful_sound, back_does, both_true, filter_same, All-map, map, filter_map_is, turned_first, live_is, any_from, filter_from, eqb-true, All-contains}
+use Rattle.arena_core.proofs.Words.{false_from_ne_true, ◌≡◌, ℕ, ◌+◌, ◌<◌, ◌≤◌, Bool, true, false, cond, not, List, [], ◌∷◌, ◌++◌, append_assoc, append-nil, length, get_or, filter, refl, sym, ◌∙◌, ap, subst, arith, All, ◌*◌, IsTrue, ◌&&◌, eqb, nat_le, drop, add-one, drop-cons, count_by, list_all, list_any, not-true, nat_tests, All-append, All-cons, All-filter, All-head, All-nil, All-tail, filter-append, filter_passes, All-weaker, length-filter_both, sum_by-filter_both, sum_by-cons, Part, IsPlaced, end_of, begins_at, exchanged, turned, turned_in_order, is_active, taken_out, Span, filter-begins_at, filter-without, share, some_pages, serves, filter_swap, filter_both, IsApart, IsThere, drop_all, Region, Space, houses, is_held_by, residents, after_back, holds_at, is_emptied, is_given_back, is_live, rises_from, staying, taken_in_order, Sound, lawful_sound, back_does, both_true, filter_same, All-map, map, filter_map_is, turned_first, live_is, any_from, filter_from, eqb-true, All-contains}
 use Rattle.arena_core.proofs.Emptying.{All-split, none_kept, Empties, any_counts, counted_any, empties, none_counted, gives, is_left, ones}
 use Rattle.arena_core.proofs.InOrder.{lowest_first}
 use Rattle.arena_core.proofs.Swaps.{changed, keeps_all, others_apart, there_placed}
@@ -116,12 +116,9 @@ walk_goes test turn start parts one page p spans stays there first is walk = by 
 -- it ends where none begins from the page on
 pub walk_ends : (test : Part → Bool) (turn : Part → Part) (start parts : List Part) (page : ℕ) → All (λ q. q.span.first < page) parts → Walk test turn start parts page → parts ≡ turned test turn start
 walk_ends test turn start parts page below walk =
-    let none : filter test parts ≡ [] = none_kept test parts (λ k d h. fails (get_or parts k d) (below k d h) (walk.low k d h)) in
+    let none : filter test parts ≡ [] = none_kept test parts (λ k d h. false_from_ne_true _ (λ t. let less = below k d h in let low = walk.low k d h t in omega arith)) in
     let same : turned test turn parts ≡ parts = cc (none, keeps_all test parts none, append-nil parts) in
     sym same ∙ walk.all
-  where
-    fails : (q : Part) → q.span.first < page → (test q ≡ true → page ≤ q.span.first) → test q ≡ false
-    fails q less low = elim (cases_Bool (test q)) [ inl h ↦ let le = low h in absurd (omega arith) | inr h ↦ h ]
 
 -- ---- the regions
 
@@ -130,10 +127,7 @@ pub staying_twice : (c addr : ℕ) (addrs : List ℕ) (regions : List Region) �
 staying_twice c addr addrs regions =
     filter_both (λ r. not (is_given_back c (addr ∷ []) r)) (λ r. not (is_given_back c addrs r)) regions
     ∙ filter_same (λ r. not (is_given_back c (addr ∷ []) r) && not (is_given_back c addrs r)) (λ r. not (is_given_back c (addr ∷ addrs) r)) regions
-    (λ r m. either (is_held_by c r) (eqb addr r.addr) (list_any (λ a. eqb a r.addr) addrs))
-  where
-    either : (held this others : Bool) → (not (held && (this || false)) && not (held && others)) ≡ not (held && (this || others))
-    either held this others = grind arith
+    (λ r m. grind arith)
 
 -- the addresses that rise from a number on are no lower
 rising : (least : ℕ) (addrs : List ℕ) → rises_from least addrs ≡ true → All (λ a. least ≤ a) addrs

@@ -1,5 +1,5 @@
 -- What leaves the extents that serve regions, and the regions, as they were.
-use Rattle.arena_core.proofs.Words.{◌≡◌, ℕ, ◌-◌, ◌<◌, Bool, true, false, not, cond, IsTrue, List, [], ◌∷◌, ◌++◌, append-nil, filter, find, Option, None, Some, refl, sym, ◌∙◌, ap, All, ◌||◌, ◌&&◌, arith, nat_lt, All-cons, All-nil, filter-append, Answer, Done, Refuses, Placed, Ask, Alloc, Commit, Dalloc, Decommit, Merge, PurgeLazy, Split, Abandoned, Kept, NoArena, Noted, Nothing, Purge, Setting, MakeLive, Why, Part, Region, Rest, Span, ToMuzzy, ToRetained, Flight, State, Space, begins_at, exchanged, is_active, is_flight_at, is_listed, next_flight, pages_listed, put_down, rest_of, taken_out, end_of, Stepped, if_live, is_lazy, stays, whole_at, fit, after_commit, after_cut, after_grow, after_look, after_merge, apart_at, begins_either, commit_at, cut_at, grow_unless, high_piece, is_left_of, is_like, is_purged, is_right_of, join_at, joined, look_at, low_piece, neighbour, put_at, put_at_rest, put_beside, why_not, after_decommit, after_lazy, after_offer, after_purge_take, decommit_at, is_regranted, lazy_at, offer_at, purge_at, without_offer, is_spare, widen_at, widen_by, after_set, is_absent, made_live, doom_at, is_dying, residents, IsQuiet, Sound, Life, Absent, Dying, Live, filter-begins_at, filter-without, find_has, find_passes, Listed, both_true, fit-listed, listed-idle, put_down-idle, some_pages, is_unused, is_live, inl, inr, subst, neighbour_side}
+use Rattle.arena_core.proofs.Words.{◌≡◌, ℕ, ◌-◌, ◌<◌, Bool, true, false, not, cond, IsTrue, List, [], ◌∷◌, ◌++◌, append-nil, filter, find, Option, None, Some, refl, sym, ◌∙◌, ap, All, ◌||◌, ◌&&◌, arith, nat_lt, All-cons, All-nil, filter-append, Answer, Done, Refuses, Placed, Ask, Alloc, Commit, Dalloc, Decommit, Merge, PurgeLazy, Split, Abandoned, Kept, NoArena, Noted, Nothing, Purge, Setting, MakeLive, Why, Part, Region, Rest, Span, ToMuzzy, ToRetained, Flight, Space, begins_at, exchanged, is_active, is_flight_at, is_listed, next_flight, pages_listed, put_down, rest_of, taken_out, end_of, Stepped, if_live, is_lazy, stays, whole_at, fit, after_commit, after_cut, after_grow, after_look, after_merge, apart_at, begins_either, commit_at, cut_at, grow_unless, high_piece, is_left_of, is_like, is_purged, is_right_of, join_at, joined, look_at, low_piece, neighbour, put_at, put_at_rest, put_beside, why_not, after_decommit, after_lazy, after_offer, after_purge_take, decommit_at, is_regranted, lazy_at, offer_at, purge_at, without_offer, is_spare, widen_at, widen_by, after_set, is_absent, made_live, doom_at, is_dying, residents, IsQuiet, Sound, Life, Absent, Dying, Live, filter-begins_at, filter-without, find_has, find_passes, Listed, both_true, fit-listed, listed-idle, put_down-idle, some_pages, is_unused, is_live, inl, inr, subst, neighbour_side}
 use Rattle.arena_core.proofs.Emptying.{none_kept}
 use Rattle.arena_core.proofs.Homes.{in_flight}
 
@@ -197,10 +197,8 @@ offer_done_still s c found ask answer = same s
 spare_listed : (page lacking : ℕ) (parts : List Part) (p : Part) → find (is_spare page lacking) parts ≡ Some p → Listed parts p
 spare_listed page lacking parts p e =
     let passes = both_true (is_unused p.state && begins_at page p) _ (find_passes (is_spare page lacking) parts p e) in
-    record { test = is_spare page lacking; found = e; rest = rest_of p.state; is_in = unused_listed p.state (both_true (is_unused p.state) _ passes.0).0 }
-  where
-    unused_listed : (state : State) → is_unused state ≡ true → is_listed (rest_of state) state ≡ true
-    unused_listed state h = grind arith
+    let unused = (both_true (is_unused p.state) _ passes.0).0 in
+    record { test = is_spare page lacking; found = e; rest = rest_of p.state; is_in = grind (arith, unused) }
 
 pub widen_still : (s : Space) (c pages : ℕ) (o : Option (Region × Part)) → Sound s → Still s (widen_at s c pages o).after
 widen_still s c pages None sound = same s

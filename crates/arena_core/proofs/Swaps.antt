@@ -21,21 +21,21 @@ others_apart parts p alone owners = λ k d h page.
     let own : sum_by (share page) (filter t parts) ≡ sum_by (share page) (p ∷ []) = ap (sum_by (share page)) alone in
     omega (arith, get_or-le-sum_by (share page) others k d h, own, sum_by-cons (share page) p [], sum_by-filter_both t (λ q. not (t q)) (λ _. refl) (share page) parts, owners page)
 
--- Pieces that may stand in place of an extent: they lie in the space and have just its pages.
-pub record Fill (p : Part) (pieces : List Part) : Type 0 where
+-- Pieces that may stand in place of an extent: they lie in the space and have only pages of its, less by so many.
+pub record Fill (p : Part) (pieces : List Part) (less : ℕ) : Type 0 where
   pub placed : All (λ q. IsPlaced q.span) pieces
-  pub shares : (page : ℕ) → holders page pieces ≡ share page p
-  pub pages : all_pages pieces ≡ p.span.pages
+  pub shares : (page : ℕ) → holders page pieces ≤ share page p
+  pub pages : all_pages pieces + less ≡ p.span.pages
 
 -- What an exchange leaves: extents that are apart, with these sums.
-pub record Swapped (parts after : List Part) (served serves : ℕ) : Type 0 where
+pub record Swapped (parts after : List Part) (served serves less : ℕ) : Type 0 where
   pub apart : IsApart after
-  pub pages : all_pages after ≡ all_pages parts
+  pub pages : all_pages after + less ≡ all_pages parts
   pub active : active_pages after + served ≡ active_pages parts + serves
 
 -- an extent is exchanged for pieces
-pub swapped : (parts pieces : List Part) (p : Part) → IsApart parts → IsThere parts p → Fill p pieces →
-    Swapped parts (exchanged (begins_at p.span.first) parts pieces) (serving p) (active_pages pieces)
+pub swapped : (parts pieces : List Part) (p : Part) {less : ℕ} → IsApart parts → IsThere parts p → Fill p pieces less →
+    Swapped parts (exchanged (begins_at p.span.first) parts pieces) (active_pages (p ∷ [])) (active_pages pieces) less
 swapped parts pieces p apart there fill =
     let some = some_pages parts apart.placed in
     let sums = λ (f : Part → ℕ). sum_by-replaced f (begins_at p.span.first) parts pieces p some (apart.owners p.span.first) there in record {
@@ -44,35 +44,44 @@ swapped parts pieces p apart there fill =
         owners = λ page. omega (arith, sums (share page), fill.shares page, apart.owners page);
       };
       pages = omega (arith, sums pages, fill.pages);
-      active = sums serving;
+      active = omega (arith, sums serving, sum_by-cons serving p []);
     }
 
--- one piece with the span of the extent
-pub one_fills : (p q : Part) → IsPlaced p.span → q.span ≡ p.span → Fill p (q ∷ [])
-one_fills p q placed same = record {
-  placed = All-cons (λ x. IsPlaced x.span) q [] (subst IsPlaced (sym same) placed) (All-nil (λ x. IsPlaced x.span));
+-- an extent goes
+pub gone : (parts : List Part) (p : Part) → IsApart parts → IsThere parts p → Swapped parts (exchanged (begins_at p.span.first) parts []) (active_pages (p ∷ [])) 0 p.span.pages
+gone parts p apart there = swapped parts [] p apart there (record { placed = All-nil (λ q. IsPlaced q.span); shares = λ page. omega arith; pages = omega arith })
+
+-- an extent is changed
+pub changed : (parts : List Part) (p q : Part) → IsApart parts → IsThere parts p → q.span ≡ p.span →
+    Swapped parts (exchanged (begins_at p.span.first) parts (q ∷ [])) (active_pages (p ∷ [])) (active_pages (q ∷ [])) 0
+changed parts p q apart there same = swapped parts (q ∷ []) p apart there (record {
+  placed = All-cons (λ x. IsPlaced x.span) q [] (subst IsPlaced (sym same) (there_placed parts p apart there)) (All-nil (λ x. IsPlaced x.span));
   shares = λ page. let e : share page q ≡ share page p = ap (λ s. cond (has_page page s) 1 0) same in omega (arith, e, sum_by-cons (share page) q []);
   pages = let e : q.span.pages ≡ p.span.pages = ap (λ (s : Span). s.pages) same in omega (arith, e, sum_by-cons pages q []);
-}
+})
 
--- two pieces with the spans below and above a cut, in any order
-pub two_fill : (p low high : Part) (left : ℕ) → IsPlaced p.span → 0 < left → left < p.span.pages →
-    low.span ≡ (low_piece left p).span → high.span ≡ (high_piece left p).span → Fill p (low ∷ high ∷ []) × Fill p (high ∷ low ∷ [])
-two_fill p low high left placed some fewer low_is high_is =
+-- an extent is cut in two, of which either comes last
+pub cut_swaps : (parts : List Part) (p low high : Part) (left : ℕ) → IsApart parts → IsThere parts p → 0 < left → left < p.span.pages → low.span ≡ (low_piece left p).span → high.span ≡ (high_piece left p).span →
+    Swapped parts (exchanged (begins_at p.span.first) parts (low ∷ high ∷ [])) (active_pages (p ∷ [])) (active_pages (low ∷ []) + active_pages (high ∷ [])) 0
+    × Swapped parts (exchanged (begins_at p.span.first) parts (high ∷ low ∷ [])) (active_pages (p ∷ [])) (active_pages (high ∷ []) + active_pages (low ∷ [])) 0
+cut_swaps parts p low high left apart there some fewer low_is high_is =
+    let placed = there_placed parts p apart there in
     let low_placed : IsPlaced low.span = subst IsPlaced (sym low_is) (some, placed.1, omega (arith, placed.2)) in
     let high_placed : IsPlaced high.span = subst IsPlaced (sym high_is) (omega arith, omega (arith, placed.1), omega (arith, placed.2)) in
-    let sum : (f : Span → ℕ) → f (low_piece left p).span + f (high_piece left p).span ≡ f p.span → f low.span + f high.span ≡ f p.span = λ f h.
-    cc (ap f low_is, ap f high_is, h) in
+    let sum : (f : Span → ℕ) → f (low_piece left p).span + f (high_piece left p).span ≡ f p.span → f low.span + f high.span ≡ f p.span = λ f h. cc (ap f low_is, ap f high_is, h) in
     let shares : (page : ℕ) → share page low + share page high ≡ share page p = λ page. sum (λ s. cond (has_page page s) 1 0) (cut_shares page left p some fewer) in
     let sizes : low.span.pages + high.span.pages ≡ p.span.pages = sum (λ s. s.pages) (omega arith) in
     (pair low high low_placed high_placed shares sizes, pair high low high_placed low_placed (λ page. omega (arith, shares page)) (omega arith))
   where
-    pair : (a b : Part) → IsPlaced a.span → IsPlaced b.span → ((page : ℕ) → share page a + share page b ≡ share page p) → a.span.pages + b.span.pages ≡ p.span.pages → Fill p (a ∷ b ∷ [])
-    pair a b a_placed b_placed shares sizes = record {
-      placed = All-cons (λ x. IsPlaced x.span) a (b ∷ []) a_placed (All-cons (λ x. IsPlaced x.span) b [] b_placed (All-nil (λ x. IsPlaced x.span)));
-      shares = λ page. omega (arith, shares page, sum_by-cons (share page) a (b ∷ []), sum_by-cons (share page) b []);
-      pages = omega (arith, sizes, sum_by-cons pages a (b ∷ []), sum_by-cons pages b []);
-    }
+    pair : (a b : Part) → IsPlaced a.span → IsPlaced b.span → ((page : ℕ) → share page a + share page b ≡ share page p) → a.span.pages + b.span.pages ≡ p.span.pages →
+        Swapped parts (exchanged (begins_at p.span.first) parts (a ∷ b ∷ [])) (active_pages (p ∷ [])) (active_pages (a ∷ []) + active_pages (b ∷ [])) 0
+    pair a b a_placed b_placed shares sizes =
+        let swap = swapped parts (a ∷ b ∷ []) p apart there (record {
+          placed = All-cons (λ x. IsPlaced x.span) a (b ∷ []) a_placed (All-cons (λ x. IsPlaced x.span) b [] b_placed (All-nil (λ x. IsPlaced x.span)));
+          shares = λ page. omega (arith, shares page, sum_by-cons (share page) a (b ∷ []), sum_by-cons (share page) b []);
+          pages = omega (arith, sizes, sum_by-cons pages a (b ∷ []), sum_by-cons pages b []);
+        }) in
+        record { apart = swap.apart; pages = swap.pages; active = omega (arith, swap.active, sum_by-cons serving a (b ∷ []), sum_by-cons serving a [], sum_by-cons serving b []) }
 
 -- ---- the space
 
@@ -83,30 +92,10 @@ pages_fit parts apart =
     (All-weaker (λ p. IsPlaced p.span) (λ p. p.span.first + p.span.pages ≤ pages_end) (λ p h. h.2) parts apart.placed)
     apart.owners
 
--- ---- an extent goes
-
--- What is left where one extent goes.
-pub record Gone (parts after : List Part) (p : Part) : Type 0 where
-  pub apart : IsApart after
-  pub pages : all_pages after + p.span.pages ≡ all_pages parts
-  pub active : active_pages after + serving p ≡ active_pages parts
-
-pub gone : (parts : List Part) (p : Part) → IsApart parts → IsThere parts p → Gone parts (exchanged (begins_at p.span.first) parts []) p
-gone parts p apart there =
-    let some = some_pages parts apart.placed in
-    let sums = λ (f : Part → ℕ). sum_by-replaced f (begins_at p.span.first) parts [] p some (apart.owners p.span.first) there in record {
-      apart = record {
-        placed = All-exchanged (λ q. IsPlaced q.span) (begins_at p.span.first) parts [] apart.placed (All-nil (λ q. IsPlaced q.span));
-        owners = λ page. omega (arith, sums (share page), apart.owners page);
-      };
-      pages = omega (arith, sums pages);
-      active = omega (arith, sums serving);
-    }
-
 -- ---- two extents become one
 
 pub joined_swaps : (parts : List Part) (p q : Part) → IsApart parts → IsThere parts p → IsThere parts q → AreBeside p q →
-    Swapped parts (exchanged (begins_either p q) parts (joined p q ∷ [])) (serving p + serving q) (active_pages (joined p q ∷ []))
+    Swapped parts (exchanged (begins_either p q) parts (joined p q ∷ [])) (serving p + serving q) (active_pages (joined p q ∷ [])) 0
 joined_swaps parts p q apart low high side =
     let some = some_pages parts apart.placed in
     let p_placed = there_placed parts p apart low in
@@ -183,15 +172,6 @@ keeps_all t (x ∷ xs) none = grind (arith, keeps_all t xs)
 pub at_some : {X : Type 0} (P : X → Type 0) (o : Option X) (x : X) → o ≡ Some x → IfSome o P → P x
 at_some P o x e h = subst (λ o. IfSome o P) e h
 
--- an extent is changed
-pub changed : (parts : List Part) (p q : Part) → IsApart parts → IsThere parts p → q.span ≡ p.span →
-    Swapped parts (exchanged (begins_at p.span.first) parts (q ∷ [])) (serving p) (active_pages (q ∷ []))
-changed parts p q apart there same = swapped parts (q ∷ []) p apart there (one_fills p q (there_placed parts p apart there) same)
-
--- what serves regions is no more than what there is
-if_le : (b : Bool) (n : ℕ) → cond b n 0 ≤ n
-if_le b n = grind arith
-
 -- What is known inside of an extent that a caller names: it is there, lies in the space, and is within the sums.
 pub record Named (b : Inside) (p : Part) : Type 0 where
   pub there : IsThere b.book.parts p
@@ -203,7 +183,7 @@ pub record Named (b : Inside) (p : Part) : Type 0 where
 pub named : {b : Inside} {now : Book} (p : Part) → b.book ≡ now → IsExtents b → IsThere now.parts p → Named b p
 named {b} p view extents here =
     let there : IsThere b.book.parts p = subst (λ (x : Book). IsThere x.parts p) (sym view) here in
-    let active = sum_by-le-sum_by serving pages b.book.parts (λ q. if_le (is_active q.state) q.span.pages) in record {
+    let active = sum_by-le-sum_by serving pages b.book.parts (λ q. grind arith) in record {
       there = there;
       placed = there_placed b.book.parts p extents.apart there;
       within = omega (arith, sum_by-cons serving p [], find-le-sum_by serving (begins_at p.span.first) b.book.parts p there, extents.active);
@@ -219,26 +199,10 @@ extents_are is apart active total = record { apart = subst IsApart (sym is) apar
 pub joined_active : (p q : Part) → active_pages (joined p q ∷ []) ≡ serving p + active_pages (record q { state = p.state } ∷ [])
 joined_active p q = grind (arith, sum_by-cons serving (joined p q) [], sum_by-cons serving (record q { state = p.state }) [])
 
--- an extent is cut in two, of which either comes last
-pub cut_swaps : (parts : List Part) (p low high : Part) (left : ℕ) → IsApart parts → IsThere parts p → 0 < left → left < p.span.pages → low.span ≡ (low_piece left p).span → high.span ≡ (high_piece left p).span →
-    Swapped parts (exchanged (begins_at p.span.first) parts (low ∷ high ∷ [])) (active_pages (p ∷ [])) (active_pages (low ∷ []) + active_pages (high ∷ []))
-    × Swapped parts (exchanged (begins_at p.span.first) parts (high ∷ low ∷ [])) (active_pages (p ∷ [])) (active_pages (low ∷ []) + active_pages (high ∷ []))
-cut_swaps parts p low high left apart there some fewer low_is high_is =
-    let fill = two_fill p low high left (there_placed parts p apart there) some fewer low_is high_is in
-    let up = swapped parts (low ∷ high ∷ []) p apart there fill.0 in
-    let down = swapped parts (high ∷ low ∷ []) p apart there fill.1 in
-    let one = λ (x : Part). sum_by-cons serving x [] in (
-      record { apart = up.apart; pages = up.pages; active = omega (arith, up.active, one p, sum_by-cons serving low (high ∷ []), one low, one high) },
-      record { apart = down.apart; pages = down.pages; active = omega (arith, down.active, one p, sum_by-cons serving high (low ∷ []), one low, one high) },
-    )
-
 -- the pieces serve what the extent served
 pub pieces_serve : (p : Part) (left : ℕ) → left < p.span.pages → active_pages (low_piece left p ∷ []) + active_pages (high_piece left p ∷ []) ≡ active_pages (p ∷ [])
-pieces_serve p left fewer = omega (arith, parted (is_active p.state) p.span.pages fewer, sum_by-cons serving p [], sum_by-cons serving (low_piece left p) [], sum_by-cons serving (high_piece left p) [])
-  where
-    parted : (b : Bool) (n : ℕ) → left < n → cond b n 0 ≡ cond b left 0 + cond b (n - left) 0
-    parted b n less = grind arith
+pieces_serve p left fewer = grind (arith, sum_by-cons serving p [], sum_by-cons serving (low_piece left p) [], sum_by-cons serving (high_piece left p) [])
 
 -- an extent serves no more than its pages
 pub serves_most : (p : Part) → active_pages (p ∷ []) ≤ p.span.pages
-serves_most p = omega (arith, sum_by-cons serving p [], if_le (is_active p.state) p.span.pages)
+serves_most p = grind (arith, sum_by-cons serving p [])

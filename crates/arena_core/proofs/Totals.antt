@@ -7,20 +7,9 @@ abbrev pub pages_if : (State → Bool) → Part → ℕ
 pages_if test p = cond (test p.state) p.span.pages 0
 
 -- bytes are 4096 times pages
-bytes_if : (b : Bool) (n : ℕ) → cond b (4096 * n) 0 ≡ 4096 * cond b n 0
-bytes_if true n = refl
-bytes_if false n = refl
-
 where_pages : (test : State → Bool) (parts : List Part) → bytes_where test parts ≡ 4096 * sum_by (pages_if test) parts
 where_pages test [] = refl
-where_pages test (p ∷ ps) =
-    omega (
-      arith,
-      sum_by-cons (λ q. cond (test q.state) (bytes_of q) 0) p ps,
-      sum_by-cons (pages_if test) p ps,
-      bytes_if (test p.state) p.span.pages,
-      where_pages test ps,
-    )
+where_pages test (p ∷ ps) = grind (arith, where_pages test ps, sum_by-cons (λ q. cond (test q.state) (bytes_of q) 0) p ps, sum_by-cons (pages_if test) p ps)
 
 -- the pages of the listed extents, as a sum over all
 pub listed_pages : (rest : Rest) (parts : List Part) → pages_of rest parts ≡ pages_listed rest parts
@@ -30,8 +19,8 @@ listed_pages rest (p ∷ ps) =
     grind (arith, listed_pages rest ps, sum_by-cons (λ q. q.span.pages) p kept, sum_by-cons (pages_if (is_listed rest)) p ps)
 
 -- they are no more than the pages of the space
-pub listed_fit : (rest : Rest) (s : Space) → Sound s → pages_of rest s.parts ≤ pages_end - 512
-listed_fit rest s sound = omega (arith, listed_pages rest s.parts, listed_fit_space rest s sound)
+pub listed_fit : (rest : Rest) (i : Indexes) → Sound (space_of i) → pages_of rest i.extents.parts ≤ pages_end - 512
+listed_fit rest i sound = omega (arith, listed_pages rest i.extents.parts, listed_fit_space rest (space_of i) sound)
 
 -- How the counts of a space come of the sums of pages.
 pub record Summed (parts : List Part) : Type 0 where

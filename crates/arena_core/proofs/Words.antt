@@ -1,6 +1,6 @@
 -- The words of the proofs: definitions and lemmas of std, of the crates below and of this one, each under one name.
 pub use Rattle.std.specs.List.{AllByRecursion as Every, list_all}
-pub use Rattle.std.proofs.Common.{ap, ◌∙◌, ◌≡◌, arith, rules, refl, sym, subst, length, OnOk, ◌≤◌, ℕ, ◌+◌, ◌-◌, ◌*◌, ◌<◌, zero, suc, Bool, true, false, not, ◌||◌, leb, ◌∷◌, Contains, filter, map, inl, inr, ◌≢◌, ◌/◌, cond, List, [], ◌++◌, append-nil, get_or, All, max, ◌&&◌, eqb, ltb, lt-ltb, find, Some, ◌⊎◌, Option, None, ltb as nat_lt, leb as nat_le, take, drop, IsTrue, if◌then◌else◌, slice_get, IfSome, IsSome, replicate, fold, ◌^◌, ◌↔◌, Result, Ok, Err, IfOk, OnErr, slice_set, append_assoc, add-one, drop-cons}
+pub use Rattle.std.proofs.Common.{ap, ◌∙◌, ◌≡◌, arith, rules, refl, sym, subst, length, OnOk, ◌≤◌, ℕ, ◌+◌, ◌-◌, ◌*◌, ◌<◌, zero, suc, Bool, true, false, not, ◌||◌, leb, ◌∷◌, Contains, filter, map, inl, inr, ◌≢◌, ◌/◌, cond, List, [], ◌++◌, append-nil, get_or, All, max, ◌&&◌, eqb, ltb, lt-ltb, find, Some, ◌⊎◌, Option, None, ltb as nat_lt, leb as nat_le, take, drop, IsTrue, if◌then◌else◌, slice_get, IfSome, IsSome, replicate, fold, ◌^◌, ◌↔◌, Result, Ok, Err, IfOk, OnErr, slice_set, append_assoc, add-one, drop-cons, length-set, le-ltb}
 pub use Rattle.space_model.proofs.Words.{list_any, range_with_len, sum_by, flat_map, position_or_len, count_by, option_map, mul-le-mul_left, cases_lt, eqb-true, leb-true, ltb-true, not-true, nat_tests, nil_from_length, take-append-drop, length-map, All-append, All-cons, All-filter, filter-append, All-map, All-nil, All-head, All-tail, filter_passes, recursion_from_All, All-weaker, All-push, sum_by-filter_both, list_any-append, length-range_with_len, sum_by-cons, sum_by-le-sum_by, length-filter, sum_by-insert, get_or-le-sum_by, sum_by-append, row_fits, size_bounds, slab_filled, large_size, regions_at, size_at, pages_at, region_bytes, bytes_of, bytes_where, is_mapped, region_bytes_where, doom_at, emptied, ended, flight_count, held_count, reset_stands, fit, is_held_at, is_published_at, take_over_at, Good, new_pace, absent_space, first_space, mine, is_dying, begins_at, is_active, turned_in_order, is_flight_at, taken_out, exchanged, holders, is_flight, placed, turned, is_listed, next_flight, pages_listed, put_down, rest_of, is_in_flight, listed, moved_to, after_decommit, after_lazy, after_offer, after_purge_take, decommit_at, is_regranted, lazy_at, offer_at, purge_at, without_offer, address_of, landing, region_of, regions_from, starts_at, houses, is_slab, lies_in, held_anew, inserted, residents, covers, homes, fills, is_held_by, is_published, large_home, is_spare, has_large, is_large_at, reclassed, trim_done_stands, trimmed_at, after_join, after_trim_done, is_large_class, join_stands, widened_at, widen_at, widen_by, is_in, without_client, after_set, is_absent, made_live, places, land_at, slabs_of, after_fill, fill_at, land_stands, lowest_free, most_regions, free_places, Sound, IsInSlab, IsQuiet, end_of, has_page, pages_end, IsPlaced, same_span, meets, chunk_span, is_live, op_stands, step_of, after_back, holds_at, is_emptied, is_given_back, staying, is_left_of, is_like, is_right_of, is_yes_or_no, merge_stands, reply_to, space_after, stands, rises_from, after_commit, after_cut, after_grow, after_look, after_merge, apart_at, begins_either, commit_at, cut_at, grow_unless, high_piece, is_purged, join_at, joined, look_at, low_piece, neighbour, put_at, put_at_rest, put_beside, why_not, cut_stands, Stepped, found_passes, if_live, stays, is_lazy, whole_at, is_unused}
 pub use Rattle.space_model.specs.declared.asks.Answer.{Answer}
 pub use Rattle.space_model.specs.declared.asks.Answer.TheVariants.{Done, Refused as Refuses, Placed}
@@ -26,8 +26,6 @@ pub use Rattle.space_model.specs.declared.spaces.Life.{Life}
 pub use Rattle.space_model.specs.declared.spaces.Life.TheVariants.{Live, Absent, Dying}
 pub use Rattle.space_model.specs.declared.spaces.Space.{Space}
 pub use Rattle.bin_book.proofs.Words.{eq-eqb, false_from_ne_true, cases_Bool, map-append, get_or-set_other, get_or-set_same, Contains-append_right, length-map-range_with_len, sum_by-set, place, BinSlab, meets_slab, slab_with_out, with_slab, with_regions_out, is_among, is_all_free, is_out, with_free, free_of, any_has, any_map, any_none, filter_map_is, filter_same, map_has, range_from, range_has, any_from, map_from, map_same, any_false, filter_both, head, map_both, filter_all_of, filter_from, filter_has, contains_cases, pages_bounds, dite, ℕ_discrete}
-pub use Rattle.std.proofs.Math.ListN.{length-set}
-pub use Rattle.std.proofs.lemmas.Bool.{le-ltb}
 pub use Rattle.std.proofs.lemmas.List.{ext_get_or, map-id, drop_all}
 pub use Rattle.std.proofs.lemmas.List.Elements.{All-contains, All-contains_itself}
 pub use Rattle.std.proofs.lemmas.List.Filters.{length-filter_both}
@@ -63,11 +61,11 @@ pub use Rattle.space_model.specs.Counts.{counts_of, slabs_by_class}
 pub use Rattle.space_model.specs.Purging.{keep_offer}
 pub use Rattle.space_model.specs.Resizing.{trim_answered}
 pub use Rattle.space_model.specs.Step.{taken_in_order}
-pub use Rattle.arena_core.specs.Arenas.{all_rooms, emptied_by_return, Standing, emptied_by_op, given_by, is_return, opens, IsBody, IsReady, entry_of, room_after, room_of, rooms_after, standing_of}
+pub use Rattle.arena_core.specs.Arenas.{all_rooms, emptied_by_return, Standing, emptied_by_op, given_by, is_return, opens, IsBody, IsReady, Turns, entry_of, room_after, room_of, rooms_after, standing_of}
 pub use Rattle.arena_core.specs.Booked.{LandsTakeTheFirst, booked_slab, AreBooked, BooksStayWhereHoldersChange, BooksStayWhileExtentsDo, FillsTakeTheLowest, ReturnsAreFree, filled, OrderGrows, OrderStays}
 pub use Rattle.part_book.specs.Rows.{IsApart}
 pub use Rattle.arena_core.specs.Extents.{IsThere, IsExtents, found_if, active_pages, all_pages, goes_to}
-pub use Rattle.arena_core.specs.Indexes.{HasPlaces, space_of}
+pub use Rattle.arena_core.specs.Indexes.{Does, HasPlaces, Takes, space_of}
 pub use Rattle.arena_core.specs.Slabs.{IsBooked, CanFollow, slabs_begun, slabs_filled, slabs_followed, slabs_left, slabs_taken, NothingIsBooked}
 pub use Rattle.arena_core.specs.declared.extents.Extents.TheInside.{Inside}
 pub use Rattle.arena_core.specs.declared.indexes.Indexes.{Indexes}

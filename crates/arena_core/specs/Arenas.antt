@@ -1,11 +1,12 @@
 -- What callers see of an arena, and the room that its clients have.
-use Rattle.std.specs.Prelude.{◌≡◌, ℕ, ◌-◌, ◌*◌, ◌≤◌, Bool, true, false, List, filter, length, max, slice_index_or, slice_set, if◌then◌else◌}
+use Rattle.std.specs.Prelude.{◌≡◌, ℕ, ◌-◌, ◌*◌, ◌≤◌, Bool, true, false, List, filter, length, max, slice_index_or, slice_set, Result, OnOk, IfOk, OnErr, if◌then◌else◌}
 use Rattle.std.specs.List.{sum_by}
 use Rattle.space_model.specs.declared.entries.Entry.{Entry}
 use Rattle.space_model.specs.declared.entries.Op.{Op}
 use Rattle.space_model.specs.declared.entries.Op.TheVariants.{Look, Back, Fill, Advance, PurgeTake, Publish, TakeOver, Reset, Destroy, DestroyTake, Counts, Set, Widen, Trim}
+use Rattle.space_model.specs.declared.entries.Reply.{Reply}
 use Rattle.space_model.specs.declared.spaces.Space.{Space}
-use Rattle.space_model.specs.Step.{is_emptied, staying}
+use Rattle.space_model.specs.Step.{is_emptied, staying, step_of}
 use Rattle.space_model.specs.Sound.{Sound}
 use Rattle.arena_core.specs.declared.steps.Body.{Body}
 use Rattle.arena_core.specs.Indexes.{HasPlaces, space_of}
@@ -95,3 +96,12 @@ pub record IsBody (body : Body) : Type 0 where
   pub clients : length body.rooms ≡ 32
   pub ready : IsReady body
   pub booked : IsBooked (space_of body.indexes) body.indexes.regions.slabs
+
+-- a body took the step of an operation of a client, or stayed as callers see it where memory was wanting
+pub record Turns {E : Type 0} (old new : Body) (client : ℕ) (op : Op) (r : Result Reply E) : Type 0 where
+  pub after : OnOk r (space_of new.indexes ≡ (step_of (space_of old.indexes) client op).after)
+  pub reply : IfOk r (λ told. told ≡ (step_of (space_of old.indexes) client op).reply)
+  pub rooms : OnOk r (new.rooms ≡ rooms_after (standing_of old) client op)
+  pub err : OnErr r (standing_of new ≡ standing_of old)
+  pub ready : IsReady new
+  pub booked : IsBooked (space_of new.indexes) new.indexes.regions.slabs

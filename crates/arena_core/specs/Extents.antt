@@ -1,5 +1,5 @@
 -- The extents of an arena with sums of their pages.
-use Rattle.std.specs.Prelude.{◌≡◌, ℕ, Bool, not, List, Option, None, Some, find, if◌then◌else◌}
+use Rattle.std.specs.Prelude.{◌≡◌, ◌<◌, ℕ, Bool, not, List, Option, None, Some, find, if◌then◌else◌}
 use Rattle.std.specs.List.{sum_by}
 use Rattle.part_book.specs.Books.{Book}
 use Rattle.part_book.specs.Rows.{IsApart}
@@ -21,6 +21,13 @@ active_pages parts = sum_by (λ p. if is_active p.state then p.span.pages else 0
 -- the extent is the first one that begins where it does
 abbrev pub IsThere : List Part → Part → Type 0
 IsThere parts p = find (begins_at p.span.first) parts ≡ Some p
+
+-- a book has the extent and a place for another, and there are pages in front of and behind the first so many of it
+pub record CanCut (b : Book) (p : Part) (left : ℕ) : Type 0 where
+  pub there : IsThere b.parts p
+  pub room : 0 < b.spare
+  pub some : 0 < left
+  pub fewer : left < p.span.pages
 
 -- what was found, where it passes a test
 abbrev pub found_if : (Part → Bool) → Option Part → Option Part

@@ -6,7 +6,7 @@ ghost use Rattle.space_model.specs.Ending.{after_destroy, after_destroy_take, af
 ghost use Rattle.space_model.specs.Sound.{Sound};
 ghost use Rattle.part_book.specs.Rows.{IsApart};
 ghost use Rattle.arena_core.specs.Extents.{IsThere, goes_to};
-ghost use Rattle.arena_core.specs.Indexes.{HasPlaces, space_of};
+ghost use Rattle.arena_core.specs.Indexes.{Does, HasPlaces, space_of};
 ghost use Rattle.arena_core.specs.Slabs.{IsBooked, slabs_left};
 
 use crate::extents::Extents;
@@ -66,10 +66,7 @@ fn move_all(extents: &mut Extents, rest: Rest)
 /// All regions go, and each extent that served them is dirty.
 fn empty(indexes: &mut Indexes) -> Reply
     requires { Sound (space_of indexes.old) }
-    ensures after { space_of indexes.new ≡ (emptied (space_of indexes.old)).after }
-    ensures reply { result ≡ (emptied (space_of indexes.old)).reply }
-    ensures slabs { indexes.new.regions.slabs ≡ [] }
-    ensures places { (n : ℕ) → HasPlaces indexes.old n → HasPlaces indexes.new n }
+    ensures { Does indexes.old indexes.new [] (emptied (space_of indexes.old)) result }
 {
     move_all(&mut indexes.extents, Rest::Dirty);
     indexes.regions.clear();
@@ -88,10 +85,8 @@ pub fn reset(indexes: &mut Indexes, client: u32, cached: u64) -> Reply
     requires stands { IsTrue (reset_stands (space_of indexes.old) client cached) }
     requires sound { Sound (space_of indexes.old) }
     requires booked { IsBooked (space_of indexes.old) indexes.old.regions.slabs }
-    ensures after { space_of indexes.new ≡ (after_reset (space_of indexes.old) client cached).after }
-    ensures reply { result ≡ (after_reset (space_of indexes.old) client cached).reply }
-    ensures slabs { indexes.new.regions.slabs ≡ slabs_left (after_reset (space_of indexes.old) client cached).after indexes.old.regions.slabs }
-    ensures places { (n : ℕ) → HasPlaces indexes.old n → HasPlaces indexes.new n }
+    ensures { Does indexes.old indexes.new (slabs_left (after_reset (space_of indexes.old) client cached).after indexes.old.regions.slabs)
+        (after_reset (space_of indexes.old) client cached) result }
 {
     if !indexes.life.is_live() {
         return Reply::NoArena;
@@ -110,10 +105,7 @@ pub fn reset(indexes: &mut Indexes, client: u32, cached: u64) -> Reply
 /// All regions go, each extent is retained, and the client is destroying the arena.
 fn end(indexes: &mut Indexes, client: u32) -> Reply
     requires { Sound (space_of indexes.old) }
-    ensures after { space_of indexes.new ≡ (ended (space_of indexes.old) client).after }
-    ensures reply { result ≡ (ended (space_of indexes.old) client).reply }
-    ensures slabs { indexes.new.regions.slabs ≡ [] }
-    ensures places { (n : ℕ) → HasPlaces indexes.old n → HasPlaces indexes.new n }
+    ensures { Does indexes.old indexes.new [] (ended (space_of indexes.old) client) result }
 {
     move_all(&mut indexes.extents, Rest::Retained);
     indexes.regions.clear();
@@ -150,10 +142,7 @@ pub fn destroy(indexes: &mut Indexes, client: u32, cached: u64) -> Reply
 
 /// Takes the oldest extent off an arena that is being destroyed. After the last one it is absent.
 pub fn destroy_take(indexes: &mut Indexes) -> Reply
-    ensures after { space_of indexes.new ≡ (after_destroy_take (space_of indexes.old)).after }
-    ensures reply { result ≡ (after_destroy_take (space_of indexes.old)).reply }
-    ensures slabs { indexes.new.regions.slabs ≡ indexes.old.regions.slabs }
-    ensures places { (n : ℕ) → HasPlaces indexes.old n → HasPlaces indexes.new n }
+    ensures { Does indexes.old indexes.new indexes.old.regions.slabs (after_destroy_take (space_of indexes.old)) result }
 {
     let Some(part) = indexes.extents.first() else {
         indexes.life = Life::Absent;

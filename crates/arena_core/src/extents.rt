@@ -9,7 +9,7 @@ ghost use Rattle.space_model.specs.Purging.{count_listed};
 ghost use Rattle.space_model.specs.Resizing.{is_spare};
 ghost use Rattle.space_model.specs.Step.{begins_either, high_piece, is_left_of, is_like, is_right_of, joined, low_piece, neighbour, next_flight};
 ghost use Rattle.part_book.specs.Books.{AreBeside, IsFirstFrom, pages_of};
-ghost use Rattle.arena_core.specs.Extents.{IsThere, active_pages, all_pages, found_if};
+ghost use Rattle.arena_core.specs.Extents.{CanCut, IsThere, active_pages, all_pages, found_if};
 
 use part_book::PartBook;
 use space_model::{Part, Rest, Span, State};
@@ -247,10 +247,7 @@ impl Extents {
     /// Cuts an extent in two, each in a state of its own, of which the higher one comes last, behind the lower one. It takes
     /// a place.
     fn halve(&mut self, part: &Part, left: u64, low: State, high: State)
-        requires there { IsThere self.old.parts part.now }
-        requires room { 0 < self.old.spare }
-        requires some { 0 < left }
-        requires fewer { left < part.now.span.pages }
+        requires { CanCut self.old part.now left }
         ensures parts { self.new.parts ≡ exchanged (begins_at part.now.span.first) self.old.parts
             (record (low_piece left part.now) { state = low } ∷ record (high_piece left part.now) { state = high } ∷ []) }
         ensures spare { self.new.spare + 1 ≡ self.old.spare }
@@ -263,10 +260,7 @@ impl Extents {
     /// Makes an extent of its own, in another state, of the pages behind the first `left`. The first pages come last, behind
     /// it. It takes a place.
     fn shed(&mut self, part: &Part, left: u64, state: State)
-        requires there { IsThere self.old.parts part.now }
-        requires room { 0 < self.old.spare }
-        requires some { 0 < left }
-        requires fewer { left < part.now.span.pages }
+        requires { CanCut self.old part.now left }
         ensures parts { self.new.parts ≡ exchanged (begins_at part.now.span.first) self.old.parts
             (record (high_piece left part.now) { state = state } ∷ low_piece left part.now ∷ []) }
         ensures spare { self.new.spare + 1 ≡ self.old.spare }
@@ -278,10 +272,7 @@ impl Extents {
     /// Makes two of an extent. The piece that keeps its state comes last, behind the other one, which is put down. It takes
     /// a place.
     pub fn split(&mut self, part: &Part, left: u64, keep_low: bool)
-        requires there { IsThere self.old.parts part.now }
-        requires room { 0 < self.old.spare }
-        requires some { 0 < left }
-        requires fewer { left < part.now.span.pages }
+        requires { CanCut self.old part.now left }
         ensures parts { self.new.parts ≡ exchanged (begins_at part.now.span.first) self.old.parts
             (cond keep_low (put_down (high_piece left part.now) ∷ low_piece left part.now ∷ [])
             (put_down (low_piece left part.now) ∷ high_piece left part.now ∷ [])) }
@@ -298,10 +289,7 @@ impl Extents {
     /// Cuts the pages behind the first `left` off an extent, as one of another state. It comes last, behind the first pages.
     /// It takes a place.
     pub fn cut_off(&mut self, part: &Part, left: u64, state: State)
-        requires there { IsThere self.old.parts part.now }
-        requires room { 0 < self.old.spare }
-        requires some { 0 < left }
-        requires fewer { left < part.now.span.pages }
+        requires { CanCut self.old part.now left }
         ensures parts { self.new.parts ≡ exchanged (begins_at part.now.span.first) self.old.parts
             (low_piece left part.now ∷ record (high_piece left part.now) { state = state } ∷ []) }
         ensures spare { self.new.spare + 1 ≡ self.old.spare }

@@ -5,7 +5,7 @@ ghost use Rattle.std.specs.List.{list_all};
 ghost use Rattle.space_model.specs.Part.{is_flight_at};
 ghost use Rattle.space_model.specs.Step.{after_back, after_merge, holds_at, is_emptied, is_live, is_purged, merge_stands, put_at, rises_from, staying};
 ghost use Rattle.space_model.specs.Sound.{Sound};
-ghost use Rattle.arena_core.specs.Indexes.{HasPlaces, space_of};
+ghost use Rattle.arena_core.specs.Indexes.{Does, HasPlaces, space_of};
 ghost use Rattle.arena_core.specs.Slabs.{IsBooked};
 
 use crate::indexes::Indexes;
@@ -22,12 +22,8 @@ fn is_purged(indexes: &Indexes, part: &Part) -> bool
 
 /// Looks for a neighbour of an extent in flight that may be merged with it, and puts the extent down where there is none.
 pub fn put_look(indexes: &mut Indexes, client: u32, span: Span, tries: u8) -> Reply
-    ensures after { space_of indexes.new
-        ≡ (put_at (space_of indexes.old) client tries (find (is_flight_at client span) (space_of indexes.old).parts)).after }
-    ensures reply { result
-        ≡ (put_at (space_of indexes.old) client tries (find (is_flight_at client span) (space_of indexes.old).parts)).reply }
-    ensures slabs { indexes.new.regions.slabs ≡ indexes.old.regions.slabs }
-    ensures places { (n : ℕ) → HasPlaces indexes.old n → HasPlaces indexes.new n }
+    ensures { Does indexes.old indexes.new indexes.old.regions.slabs
+        (put_at (space_of indexes.old) client tries (find (is_flight_at client span) (space_of indexes.old).parts)) result }
 {
     let Some(part) = indexes.extents.flight(client, span) else {
         return Reply::Noted;
@@ -50,10 +46,8 @@ pub fn put_look(indexes: &mut Indexes, client: u32, span: Span, tries: u8) -> Re
 pub fn merge_done(indexes: &mut Indexes, client: u32, heard: Heard, own_low: bool) -> Reply
     requires stands { IsTrue (merge_stands (space_of indexes.old) client heard.ask heard.answer) }
     requires sound { Sound (space_of indexes.old) }
-    ensures after { space_of indexes.new ≡ (after_merge (space_of indexes.old) client own_low heard.ask heard.answer).after }
-    ensures reply { result ≡ (after_merge (space_of indexes.old) client own_low heard.ask heard.answer).reply }
-    ensures slabs { indexes.new.regions.slabs ≡ indexes.old.regions.slabs }
-    ensures places { (n : ℕ) → HasPlaces indexes.old n → HasPlaces indexes.new n }
+    ensures { Does indexes.old indexes.new indexes.old.regions.slabs
+        (after_merge (space_of indexes.old) client own_low heard.ask heard.answer) result }
 {
     let Ask::Merge { low, high } = heard.ask else {
         return Reply::Noted;

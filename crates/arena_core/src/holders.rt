@@ -4,7 +4,7 @@ ghost use Rattle.std.specs.Prelude.{◌≡◌, ◌<◌, ℕ, true};
 ghost use Rattle.space_model.specs.Holding.{after_publish, after_take_over};
 ghost use Rattle.space_model.specs.Step.{holds_at};
 ghost use Rattle.space_model.specs.Sound.{Sound};
-ghost use Rattle.arena_core.specs.Indexes.{HasPlaces, space_of};
+ghost use Rattle.arena_core.specs.Indexes.{Does, space_of};
 
 use crate::indexes::Indexes;
 use space_model::Reply;
@@ -13,10 +13,8 @@ use space_model::Reply;
 pub fn publish(indexes: &mut Indexes, client: u32, addr: u64) -> Reply
     requires held { holds_at client (space_of indexes.old).regions addr ≡ true }
     requires sound { Sound (space_of indexes.old) }
-    ensures after { space_of indexes.new ≡ (after_publish (space_of indexes.old) client addr).after }
-    ensures reply { result ≡ (after_publish (space_of indexes.old) client addr).reply }
-    ensures slabs { indexes.new.regions.slabs ≡ indexes.old.regions.slabs }
-    ensures places { (n : ℕ) → HasPlaces indexes.old n → HasPlaces indexes.new n }
+    ensures { Does indexes.old indexes.new indexes.old.regions.slabs
+        (after_publish (space_of indexes.old) client addr) result }
 {
     indexes.regions.hand_over(addr, None);
     Reply::Noted
@@ -26,10 +24,8 @@ pub fn publish(indexes: &mut Indexes, client: u32, addr: u64) -> Reply
 pub fn take_over(indexes: &mut Indexes, client: u32, addr: u64) -> Reply
     requires client { client < 32 }
     requires sound { Sound (space_of indexes.old) }
-    ensures after { space_of indexes.new ≡ (after_take_over (space_of indexes.old) client addr).after }
-    ensures reply { result ≡ (after_take_over (space_of indexes.old) client addr).reply }
-    ensures slabs { indexes.new.regions.slabs ≡ indexes.old.regions.slabs }
-    ensures places { (n : ℕ) → HasPlaces indexes.old n → HasPlaces indexes.new n }
+    ensures { Does indexes.old indexes.new indexes.old.regions.slabs
+        (after_take_over (space_of indexes.old) client addr) result }
 {
     if !indexes.life.is_live() {
         return Reply::NoArena;

@@ -6,7 +6,7 @@ ghost use Rattle.space_model.specs.Part.{is_flight_at};
 ghost use Rattle.space_model.specs.Step.{cut_stands, grow_stands, land_stands, land_at, after_look, after_cut, after_grow, after_commit, cut_at, whole_at, is_found, is_owned, is_in_space, is_live, why_not, grow_after};
 ghost use Rattle.space_model.specs.Sound.{Sound};
 ghost use Rattle.arena_core.specs.Extents.{IsThere};
-ghost use Rattle.arena_core.specs.Indexes.{HasPlaces, space_of};
+ghost use Rattle.arena_core.specs.Indexes.{Does, HasPlaces, Takes, space_of};
 ghost use Rattle.region_book.specs.RegionLists.{CanBeSlab};
 ghost use Rattle.region_book.specs.Slabs.{slabs_landed};
 
@@ -22,10 +22,8 @@ pub fn look(indexes: &mut Indexes, client: u32, pages: u64, align: u64) -> Reply
     requires some { 0 < pages }
     requires aligned { 0 < align }
     requires sound { Sound (space_of indexes.old) }
-    ensures after { space_of indexes.new ≡ (after_look (space_of indexes.old) client pages align).after }
-    ensures reply { result ≡ (after_look (space_of indexes.old) client pages align).reply }
-    ensures slabs { indexes.new.regions.slabs ≡ indexes.old.regions.slabs }
-    ensures places { (n : ℕ) → HasPlaces indexes.old n → HasPlaces indexes.new n }
+    ensures { Does indexes.old indexes.new indexes.old.regions.slabs
+        (after_look (space_of indexes.old) client pages align) result }
 {
     if !indexes.life.is_live() {
         return Reply::NoArena;
@@ -47,10 +45,7 @@ pub fn look(indexes: &mut Indexes, client: u32, pages: u64, align: u64) -> Reply
 /// An extent in flight whose hook refused is put down whole.
 pub fn put_whole(indexes: &mut Indexes, found: Option<Part>) -> Reply
     requires { IfSome found (IsThere (space_of indexes.old).parts) }
-    ensures after { space_of indexes.new ≡ (whole_at (space_of indexes.old) found).after }
-    ensures reply { result ≡ (whole_at (space_of indexes.old) found).reply }
-    ensures slabs { indexes.new.regions.slabs ≡ indexes.old.regions.slabs }
-    ensures places { (n : ℕ) → HasPlaces indexes.old n → HasPlaces indexes.new n }
+    ensures { Does indexes.old indexes.new indexes.old.regions.slabs (whole_at (space_of indexes.old) found) result }
 {
     let Some(part) = found else {
         return Reply::Noted;
@@ -68,10 +63,8 @@ fn cut(indexes: &mut Indexes, part: &Part, left: u64, keep_low: bool) -> Reply
     requires placed { IsPlaced part.now.span }
     requires some { 0 < left }
     requires fewer { left < part.now.span.pages }
-    ensures after { space_of indexes.new ≡ (cut_at (space_of indexes.old) keep_low left (Some part.now)).after }
-    ensures reply { result ≡ (cut_at (space_of indexes.old) keep_low left (Some part.now)).reply }
-    ensures slabs { indexes.new.regions.slabs ≡ indexes.old.regions.slabs }
-    ensures places { (n : ℕ) → HasPlaces indexes.old (n + 1) → HasPlaces indexes.new n }
+    ensures { Takes indexes.old indexes.new indexes.old.regions.slabs
+        (cut_at (space_of indexes.old) keep_low left (Some part.now)) result }
 {
     indexes.extents.split(part, left, keep_low);
     let kept = if keep_low {
@@ -89,14 +82,13 @@ fn cut(indexes: &mut Indexes, part: &Part, left: u64, keep_low: bool) -> Reply
 }
 
 /// Takes in the answer to a split.
+#[tactic(auto, using(crate::proofs::RoomSums::taken))]
 pub fn cut_done(indexes: &mut Indexes, client: u32, heard: Heard, keep_low: bool) -> Reply
     requires stands { IsTrue (cut_stands (space_of indexes.old) client heard.ask heard.answer) }
     requires sound { Sound (space_of indexes.old) }
     requires room { HasPlaces indexes.old 1 }
-    ensures after { space_of indexes.new ≡ (after_cut (space_of indexes.old) client keep_low heard.ask heard.answer).after }
-    ensures reply { result ≡ (after_cut (space_of indexes.old) client keep_low heard.ask heard.answer).reply }
-    ensures slabs { indexes.new.regions.slabs ≡ indexes.old.regions.slabs }
-    ensures places { (n : ℕ) → HasPlaces indexes.old (n + 1) → HasPlaces indexes.new n }
+    ensures { Takes indexes.old indexes.new indexes.old.regions.slabs
+        (after_cut (space_of indexes.old) client keep_low heard.ask heard.answer) result }
 {
     let Ask::Split { span, left } = heard.ask else {
         return Reply::Noted;
@@ -110,10 +102,8 @@ pub fn cut_done(indexes: &mut Indexes, client: u32, heard: Heard, keep_low: bool
 
 /// Takes in the answer to a commit.
 pub fn commit_done(indexes: &mut Indexes, client: u32, heard: Heard) -> Reply
-    ensures after { space_of indexes.new ≡ (after_commit (space_of indexes.old) client heard.ask heard.answer).after }
-    ensures reply { result ≡ (after_commit (space_of indexes.old) client heard.ask heard.answer).reply }
-    ensures slabs { indexes.new.regions.slabs ≡ indexes.old.regions.slabs }
-    ensures places { (n : ℕ) → HasPlaces indexes.old n → HasPlaces indexes.new n }
+    ensures { Does indexes.old indexes.new indexes.old.regions.slabs
+        (after_commit (space_of indexes.old) client heard.ask heard.answer) result }
 {
     let Ask::Commit(span) = heard.ask else {
         return Reply::Noted;
@@ -188,10 +178,8 @@ pub fn grow_done(indexes: &mut Indexes, client: u32, heard: Heard, found: Option
     requires stands { IsTrue (grow_stands (space_of indexes.old) client heard.ask heard.answer) }
     requires sound { Sound (space_of indexes.old) }
     requires room { HasPlaces indexes.old 1 }
-    ensures after { space_of indexes.new ≡ (after_grow (space_of indexes.old) client found heard.ask heard.answer).after }
-    ensures reply { result ≡ (after_grow (space_of indexes.old) client found heard.ask heard.answer).reply }
-    ensures slabs { indexes.new.regions.slabs ≡ indexes.old.regions.slabs }
-    ensures places { (n : ℕ) → HasPlaces indexes.old (n + 1) → HasPlaces indexes.new n }
+    ensures { Takes indexes.old indexes.new indexes.old.regions.slabs
+        (after_grow (space_of indexes.old) client found heard.ask heard.answer) result }
 {
     let Ask::Alloc { pages, align, .. } = heard.ask else {
         return Reply::Noted;
@@ -227,12 +215,8 @@ pub fn land_done(indexes: &mut Indexes, client: u32, span: Span, class: u8, coun
     requires sound { Sound (space_of indexes.old) }
     requires room { HasPlaces indexes.old 1 }
     requires may { class < 36 → CanBeSlab class span.first count indexes.old.regions.slabs }
-    ensures slabs { indexes.new.regions.slabs ≡ slabs_landed class span.first count indexes.old.regions.slabs }
-    ensures after { space_of indexes.new
-        ≡ (land_at (space_of indexes.old) client class count (find (is_flight_at client span) (space_of indexes.old).parts)).after }
-    ensures reply { result
-        ≡ (land_at (space_of indexes.old) client class count (find (is_flight_at client span) (space_of indexes.old).parts)).reply }
-    ensures places { (n : ℕ) → HasPlaces indexes.old (n + 1) → HasPlaces indexes.new n }
+    ensures { Takes indexes.old indexes.new (slabs_landed class span.first count indexes.old.regions.slabs)
+        (land_at (space_of indexes.old) client class count (find (is_flight_at client span) (space_of indexes.old).parts)) result }
 {
     let Some(part) = indexes.extents.flight(client, span) else {
         return Reply::Noted;

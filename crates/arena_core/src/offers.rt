@@ -6,7 +6,7 @@ ghost use Rattle.space_model.specs.Part.{is_flight_at};
 ghost use Rattle.space_model.specs.Purging.{after_offer, is_regranted, keep_offer, offer_at};
 ghost use Rattle.space_model.specs.Step.{op_stands};
 ghost use Rattle.space_model.specs.Sound.{Sound};
-ghost use Rattle.arena_core.specs.Indexes.{HasPlaces, space_of};
+ghost use Rattle.arena_core.specs.Indexes.{HasPlaces, Takes, space_of};
 
 use crate::extents::Extents;
 use crate::indexes::Indexes;
@@ -15,10 +15,8 @@ use space_model::{Answer, Ask, Heard, Offered, Part, Reply, Rest, Span, State};
 /// An extent in flight is the arena's no more, and the client asks the hook to take it.
 pub fn offer(indexes: &mut Indexes, client: u32, span: Span) -> Reply
     requires room { HasPlaces indexes.old 1 }
-    ensures after { space_of indexes.new ≡ (offer_at (space_of indexes.old) client (find (is_flight_at client span) (space_of indexes.old).parts)).after }
-    ensures reply { result ≡ (offer_at (space_of indexes.old) client (find (is_flight_at client span) (space_of indexes.old).parts)).reply }
-    ensures slabs { indexes.new.regions.slabs ≡ indexes.old.regions.slabs }
-    ensures places { (n : ℕ) → HasPlaces indexes.old (n + 1) → HasPlaces indexes.new n }
+    ensures { Takes indexes.old indexes.new indexes.old.regions.slabs
+        (offer_at (space_of indexes.old) client (find (is_flight_at client span) (space_of indexes.old).parts)) result }
 {
     if let Some(part) = indexes.extents.flight(client, span) {
         indexes.extents.take_off(&part);
@@ -48,10 +46,8 @@ fn keep_offer(
 ) -> Reply
     requires sound { Sound (keep_offer (space_of indexes.old) client found span committed).after }
     requires room { HasPlaces indexes.old 1 }
-    ensures after { space_of indexes.new ≡ (keep_offer (space_of indexes.old) client found span committed).after }
-    ensures reply { result ≡ (keep_offer (space_of indexes.old) client found span committed).reply }
-    ensures slabs { indexes.new.regions.slabs ≡ indexes.old.regions.slabs }
-    ensures places { (n : ℕ) → HasPlaces indexes.old (n + 1) → HasPlaces indexes.new n }
+    ensures { Takes indexes.old indexes.new indexes.old.regions.slabs
+        (keep_offer (space_of indexes.old) client found span committed) result }
 {
     if is_regranted(found, &indexes.extents, span) {
         return Reply::Abandoned(indexes.extents.next_flight(client));
@@ -69,10 +65,8 @@ pub fn offer_done(indexes: &mut Indexes, client: u32, heard: Heard, found: Optio
     requires stands { IsTrue (op_stands (space_of indexes.old) client (OfferDone heard found)) }
     requires sound { Sound (space_of indexes.old) }
     requires room { HasPlaces indexes.old 1 }
-    ensures after { space_of indexes.new ≡ (after_offer (space_of indexes.old) client found heard.ask heard.answer).after }
-    ensures reply { result ≡ (after_offer (space_of indexes.old) client found heard.ask heard.answer).reply }
-    ensures slabs { indexes.new.regions.slabs ≡ indexes.old.regions.slabs }
-    ensures places { (n : ℕ) → HasPlaces indexes.old (n + 1) → HasPlaces indexes.new n }
+    ensures { Takes indexes.old indexes.new indexes.old.regions.slabs
+        (after_offer (space_of indexes.old) client found heard.ask heard.answer) result }
 {
     let Ask::Dalloc { span, committed } = heard.ask else {
         return Reply::Noted;

@@ -3,7 +3,7 @@
 ghost use Rattle.std.specs.Prelude.{◌≡◌, ℕ};
 ghost use Rattle.space_model.specs.Purging.{after_decommit, after_lazy, after_purge_take};
 ghost use Rattle.space_model.specs.Stepped.{is_lazy};
-ghost use Rattle.arena_core.specs.Indexes.{HasPlaces, space_of};
+ghost use Rattle.arena_core.specs.Indexes.{Does, space_of};
 
 use crate::indexes::Indexes;
 use space_model::{Answer, Ask, Heard, Reply, Rest, State};
@@ -18,10 +18,7 @@ pub fn is_lazy(indexes: &Indexes) -> bool
 /// Takes the oldest extent of a rest out of its list, where more pages are listed than may stay.
 #[tactic(auto, using(crate::proofs::Totals::listed_pages))]
 pub fn purge_take(indexes: &mut Indexes, client: u32, rest: Rest, keep: u64) -> Reply
-    ensures after { space_of indexes.new ≡ (after_purge_take (space_of indexes.old) client rest keep).after }
-    ensures reply { result ≡ (after_purge_take (space_of indexes.old) client rest keep).reply }
-    ensures slabs { indexes.new.regions.slabs ≡ indexes.old.regions.slabs }
-    ensures places { (n : ℕ) → HasPlaces indexes.old n → HasPlaces indexes.new n }
+    ensures { Does indexes.old indexes.new indexes.old.regions.slabs (after_purge_take (space_of indexes.old) client rest keep) result }
 {
     if !indexes.life.is_live() {
         return Reply::NoArena;
@@ -45,10 +42,7 @@ pub fn purge_take(indexes: &mut Indexes, client: u32, rest: Rest, keep: u64) -> 
 
 /// Takes in the answer to a lazy purge.
 pub fn lazy_done(indexes: &mut Indexes, client: u32, heard: Heard) -> Reply
-    ensures after { space_of indexes.new ≡ (after_lazy (space_of indexes.old) client heard.ask heard.answer).after }
-    ensures reply { result ≡ (after_lazy (space_of indexes.old) client heard.ask heard.answer).reply }
-    ensures slabs { indexes.new.regions.slabs ≡ indexes.old.regions.slabs }
-    ensures places { (n : ℕ) → HasPlaces indexes.old n → HasPlaces indexes.new n }
+    ensures { Does indexes.old indexes.new indexes.old.regions.slabs (after_lazy (space_of indexes.old) client heard.ask heard.answer) result }
 {
     let Ask::PurgeLazy(span) = heard.ask else {
         return Reply::Noted;
@@ -66,10 +60,7 @@ pub fn lazy_done(indexes: &mut Indexes, client: u32, heard: Heard) -> Reply
 
 /// Takes in the answer to a decommit.
 pub fn decommit_done(indexes: &mut Indexes, client: u32, heard: Heard) -> Reply
-    ensures after { space_of indexes.new ≡ (after_decommit (space_of indexes.old) client heard.ask heard.answer).after }
-    ensures reply { result ≡ (after_decommit (space_of indexes.old) client heard.ask heard.answer).reply }
-    ensures slabs { indexes.new.regions.slabs ≡ indexes.old.regions.slabs }
-    ensures places { (n : ℕ) → HasPlaces indexes.old n → HasPlaces indexes.new n }
+    ensures { Does indexes.old indexes.new indexes.old.regions.slabs (after_decommit (space_of indexes.old) client heard.ask heard.answer) result }
 {
     let Ask::Decommit(span) = heard.ask else {
         return Reply::Noted;

@@ -8,7 +8,7 @@ ghost use Rattle.space_model.specs.Resizing.{after_join, after_trim, after_trim_
 ghost use Rattle.space_model.specs.Step.{holds_at};
 ghost use Rattle.space_model.specs.Sound.{Sound};
 ghost use Rattle.arena_core.specs.Extents.{IsThere};
-ghost use Rattle.arena_core.specs.Indexes.{HasPlaces, space_of};
+ghost use Rattle.arena_core.specs.Indexes.{Does, HasPlaces, Takes, space_of};
 
 use crate::extents::Extents;
 use crate::indexes::Indexes;
@@ -26,12 +26,8 @@ fn is_open(extents: &Extents, page: u64) -> bool
 
 /// Takes the unused extent that begins at a page out of its list, if it has so many pages.
 fn widen_by(indexes: &mut Indexes, client: u32, page: u64, lacking: u64) -> Reply
-    ensures after { space_of indexes.new
-        ≡ (widen_by (space_of indexes.old) client page (find (is_spare page lacking) (space_of indexes.old).parts)).after }
-    ensures reply { result
-        ≡ (widen_by (space_of indexes.old) client page (find (is_spare page lacking) (space_of indexes.old).parts)).reply }
-    ensures slabs { indexes.new.regions.slabs ≡ indexes.old.regions.slabs }
-    ensures places { (n : ℕ) → HasPlaces indexes.old n → HasPlaces indexes.new n }
+    ensures { Does indexes.old indexes.new indexes.old.regions.slabs
+        (widen_by (space_of indexes.old) client page (find (is_spare page lacking) (space_of indexes.old).parts)) result }
 {
     let Some(part) = indexes.extents.spare_at(page, lacking) else {
         return if is_open(&indexes.extents, page) {
@@ -53,10 +49,8 @@ fn widen_by(indexes: &mut Indexes, client: u32, page: u64, lacking: u64) -> Repl
 pub fn widen(indexes: &mut Indexes, client: u32, addr: u64, pages: u64) -> Reply
     requires stands { IsTrue (widen_stands (space_of indexes.old) client addr pages) }
     requires sound { Sound (space_of indexes.old) }
-    ensures after { space_of indexes.new ≡ (after_widen (space_of indexes.old) client addr pages).after }
-    ensures reply { result ≡ (after_widen (space_of indexes.old) client addr pages).reply }
-    ensures slabs { indexes.new.regions.slabs ≡ indexes.old.regions.slabs }
-    ensures places { (n : ℕ) → HasPlaces indexes.old n → HasPlaces indexes.new n }
+    ensures { Does indexes.old indexes.new indexes.old.regions.slabs
+        (after_widen (space_of indexes.old) client addr pages) result }
 {
     let part = indexes.extents.at(addr / PAGE_BYTES);
     let end = part.span.first + part.span.pages;
@@ -72,12 +66,8 @@ fn join_home(indexes: &mut Indexes, client: u32, low: Span, high: &Part, class: 
     requires large { 36 ≤ class }
     requires class { class < 121 }
     requires sound { Sound (space_of indexes.old) }
-    ensures after { space_of indexes.new
-        ≡ (widened_at (space_of indexes.old) class (large_home (space_of indexes.old) client (address_of low.first)) (Some high.now)).after }
-    ensures reply { result
-        ≡ (widened_at (space_of indexes.old) class (large_home (space_of indexes.old) client (address_of low.first)) (Some high.now)).reply }
-    ensures slabs { indexes.new.regions.slabs ≡ indexes.old.regions.slabs }
-    ensures places { (n : ℕ) → HasPlaces indexes.old n → HasPlaces indexes.new n }
+    ensures { Does indexes.old indexes.new indexes.old.regions.slabs
+        (widened_at (space_of indexes.old) class (large_home (space_of indexes.old) client (address_of low.first)) (Some high.now)) result }
 {
     let part = indexes.extents.at(low.first);
     let first = PAGE_BYTES * low.first;
@@ -91,10 +81,8 @@ pub fn join_done(indexes: &mut Indexes, client: u32, heard: Heard, class: u8) ->
     requires client { client < 32 }
     requires stands { IsTrue (join_stands (space_of indexes.old) client class heard.ask heard.answer) }
     requires sound { Sound (space_of indexes.old) }
-    ensures after { space_of indexes.new ≡ (after_join (space_of indexes.old) client class heard.ask heard.answer).after }
-    ensures reply { result ≡ (after_join (space_of indexes.old) client class heard.ask heard.answer).reply }
-    ensures slabs { indexes.new.regions.slabs ≡ indexes.old.regions.slabs }
-    ensures places { (n : ℕ) → HasPlaces indexes.old n → HasPlaces indexes.new n }
+    ensures { Does indexes.old indexes.new indexes.old.regions.slabs
+        (after_join (space_of indexes.old) client class heard.ask heard.answer) result }
 {
     let Ask::Merge { low, high } = heard.ask else {
         return Reply::Noted;
@@ -109,10 +97,7 @@ pub fn join_done(indexes: &mut Indexes, client: u32, heard: Heard, class: u8) ->
 /// The client begins to shrink a large region.
 pub fn trim(indexes: &mut Indexes, client: u32) -> Reply
     requires client { client < 32 }
-    ensures after { space_of indexes.new ≡ (after_trim (space_of indexes.old) client).after }
-    ensures reply { result ≡ (after_trim (space_of indexes.old) client).reply }
-    ensures slabs { indexes.new.regions.slabs ≡ indexes.old.regions.slabs }
-    ensures places { (n : ℕ) → HasPlaces indexes.old n → HasPlaces indexes.new n }
+    ensures { Does indexes.old indexes.new indexes.old.regions.slabs (after_trim (space_of indexes.old) client) result }
 {
     indexes.trims.add(client);
     Reply::Noted
@@ -129,13 +114,9 @@ fn cut_home(indexes: &mut Indexes, client: u32, span: Span, left: u64, class: u8
     requires large { 36 ≤ class }
     requires class { class < 121 }
     requires sound { Sound (space_of indexes.old) }
-    ensures after { space_of indexes.new
-        ≡ (trimmed_at (space_of indexes.old) client left class (large_home (space_of indexes.old) client (address_of span.first))).after }
-    ensures reply { result
-        ≡ (trimmed_at (space_of indexes.old) client left class (large_home (space_of indexes.old) client (address_of span.first))).reply }
+    ensures does { Takes indexes.old indexes.new indexes.old.regions.slabs
+        (trimmed_at (space_of indexes.old) client left class (large_home (space_of indexes.old) client (address_of span.first))) result }
     ensures trims { indexes.new.trims ≡ indexes.old.trims }
-    ensures slabs { indexes.new.regions.slabs ≡ indexes.old.regions.slabs }
-    ensures places { (n : ℕ) → HasPlaces indexes.old (n + 1) → HasPlaces indexes.new n }
 {
     let part = indexes.extents.at(span.first);
     let state = State::Flight(client, part.state.rest());
@@ -153,11 +134,9 @@ fn trim_answered(indexes: &mut Indexes, client: u32, heard: Heard, class: u8) ->
     requires stands { IsTrue (trim_done_stands (space_of indexes.old) client class heard.ask heard.answer) }
     requires sound { Sound (space_of indexes.old) }
     requires room { HasPlaces indexes.old 1 }
-    ensures after { space_of indexes.new ≡ (trim_answered (space_of indexes.old) client class heard.ask heard.answer).after }
-    ensures reply { result ≡ (trim_answered (space_of indexes.old) client class heard.ask heard.answer).reply }
+    ensures does { Takes indexes.old indexes.new indexes.old.regions.slabs
+        (trim_answered (space_of indexes.old) client class heard.ask heard.answer) result }
     ensures trims { indexes.new.trims ≡ indexes.old.trims }
-    ensures slabs { indexes.new.regions.slabs ≡ indexes.old.regions.slabs }
-    ensures places { (n : ℕ) → HasPlaces indexes.old (n + 1) → HasPlaces indexes.new n }
 {
     let Ask::Split { span, left } = heard.ask else {
         return Reply::Noted;
@@ -175,10 +154,8 @@ pub fn trim_done(indexes: &mut Indexes, client: u32, heard: Heard, class: u8) ->
     requires stands { IsTrue (trim_done_stands (space_of indexes.old) client class heard.ask heard.answer) }
     requires sound { Sound (space_of indexes.old) }
     requires room { HasPlaces indexes.old 1 }
-    ensures after { space_of indexes.new ≡ (after_trim_done (space_of indexes.old) client class heard.ask heard.answer).after }
-    ensures reply { result ≡ (after_trim_done (space_of indexes.old) client class heard.ask heard.answer).reply }
-    ensures slabs { indexes.new.regions.slabs ≡ indexes.old.regions.slabs }
-    ensures places { (n : ℕ) → HasPlaces indexes.old (n + 1) → HasPlaces indexes.new n }
+    ensures { Takes indexes.old indexes.new indexes.old.regions.slabs
+        (after_trim_done (space_of indexes.old) client class heard.ask heard.answer) result }
 {
     let reply = trim_answered(indexes, client, heard, class);
     indexes.trims.remove(client);

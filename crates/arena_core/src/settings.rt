@@ -6,7 +6,7 @@ ghost use Rattle.space_model.specs.Settings.{after_set, is_decay_time, made_live
 ghost use Rattle.space_model.specs.Stepped.{if_live, stays};
 ghost use Rattle.space_model.specs.Counts.{counts_of};
 ghost use Rattle.space_model.specs.Sound.{Sound};
-ghost use Rattle.arena_core.specs.Indexes.{HasPlaces, space_of};
+ghost use Rattle.arena_core.specs.Indexes.{Does, HasPlaces, space_of};
 ghost use Rattle.arena_core.specs.Slabs.{IsBooked};
 
 use crate::indexes::Indexes;
@@ -15,13 +15,10 @@ use space_model::{Boxed, Counts, Life, MAX_SERIES, Reply, Rest, Setting};
 use std::alloc::AllocError as NoMemory;
 
 /// Tells both decays what time it is, and how many pages are unused.
-#[tactic(auto, using(crate::proofs::Totals::listed_pages))]
+#[tactic(auto, using(crate::proofs::Totals::listed_pages, crate::proofs::Totals::listed_fit))]
 pub fn advance(indexes: &mut Indexes, now: u64) -> Reply
     requires { Sound (space_of indexes.old) }
-    ensures after { space_of indexes.new ≡ (after_advance (space_of indexes.old) now).after }
-    ensures reply { result ≡ (after_advance (space_of indexes.old) now).reply }
-    ensures slabs { indexes.new.regions.slabs ≡ indexes.old.regions.slabs }
-    ensures places { (n : ℕ) → HasPlaces indexes.old n → HasPlaces indexes.new n }
+    ensures { Does indexes.old indexes.new indexes.old.regions.slabs (after_advance (space_of indexes.old) now) result }
 {
     if !indexes.life.is_live() {
         return Reply::NoArena;
@@ -73,10 +70,7 @@ fn change(indexes: &mut Indexes, client: u32, setting: Setting)
 pub fn set(indexes: &mut Indexes, client: u32, setting: Setting) -> Reply
     requires client { client < 32 }
     requires stands { setting_stands setting ≡ true }
-    ensures after { space_of indexes.new ≡ (after_set (space_of indexes.old) client setting).after }
-    ensures reply { result ≡ (after_set (space_of indexes.old) client setting).reply }
-    ensures slabs { indexes.new.regions.slabs ≡ indexes.old.regions.slabs }
-    ensures places { (n : ℕ) → HasPlaces indexes.old n → HasPlaces indexes.new n }
+    ensures { Does indexes.old indexes.new indexes.old.regions.slabs (after_set (space_of indexes.old) client setting) result }
 {
     match (indexes.life, setting) {
         (

@@ -3,8 +3,8 @@
 ghost use Rattle.std.specs.Prelude.{◌≡◌, ℕ, ◌+◌, ◌*◌, ◌<◌, ◌≤◌, ◌^◌, false, true, length, max, IsTrue, IsOk, IfOk, OnOk, OnErr, slice_set};
 ghost use Rattle.space_model.specs.Step.{op_stands, step_of};
 ghost use Rattle.space_model.specs.Sound.{Sound};
-ghost use Rattle.arena_core.specs.Arenas.{IsBody, IsReady, all_rooms, emptied_by_op, given_by, is_return, may_fail, opens, room_of, rooms_after, standing_of};
-ghost use Rattle.arena_core.specs.Indexes.{HasPlaces, space_of};
+ghost use Rattle.arena_core.specs.Arenas.{IsBody, IsReady, Turns, all_rooms, emptied_by_op, given_by, is_return, may_fail, opens, room_of, rooms_after, standing_of};
+ghost use Rattle.arena_core.specs.Indexes.{Does, HasPlaces, space_of};
 ghost use Rattle.arena_core.specs.Slabs.{CanFollow, IsBooked, slabs_begun, slabs_followed};
 
 use crate::indexes::{self, Indexes};
@@ -79,10 +79,8 @@ fn begin_surely(indexes: &mut Indexes, client: u32, op: &Op) -> Reply
     requires stands { IsTrue (op_stands (space_of indexes.old) client op.now) }
     requires sound { Sound (space_of indexes.old) }
     requires booked { IsBooked (space_of indexes.old) indexes.old.regions.slabs }
-    ensures after { space_of indexes.new ≡ (step_of (space_of indexes.old) client op.now).after }
-    ensures reply { result ≡ (step_of (space_of indexes.old) client op.now).reply }
-    ensures slabs { indexes.new.regions.slabs ≡ slabs_begun client (space_of indexes.old) op.now indexes.old.regions.slabs }
-    ensures places { (n : ℕ) → HasPlaces indexes.old n → HasPlaces indexes.new n }
+    ensures { Does indexes.old indexes.new (slabs_begun client (space_of indexes.old) op.now indexes.old.regions.slabs)
+        (step_of (space_of indexes.old) client op.now) result }
 {
     match op {
         Op::Look { pages, align } => moves::look(indexes, client, *pages, *align),
@@ -157,13 +155,8 @@ fn give_back(body: &mut Body, client: u32, addrs: &Addresses) -> Result<Reply, N
     requires client { client < 32 }
     requires stands { IsTrue (op_stands (space_of body.old.indexes) client (Op.Back addrs.now)) }
     requires body { IsBody body.old }
-    ensures after { OnOk result (space_of body.new.indexes ≡ (step_of (space_of body.old.indexes) client (Op.Back addrs.now)).after) }
-    ensures reply { IfOk result (λ told. told ≡ (step_of (space_of body.old.indexes) client (Op.Back addrs.now)).reply) }
-    ensures rooms { OnOk result (body.new.rooms ≡ rooms_after (standing_of body.old) client (Op.Back addrs.now)) }
+    ensures turns { Turns body.old body.new client (Op.Back addrs.now) result }
     ensures few { OnOk result (emptied_by_op client (Op.Back addrs.now) (space_of body.old.indexes) ≤ length addrs.now) }
-    ensures err { OnErr result (standing_of body.new ≡ standing_of body.old) }
-    ensures ready { IsReady body.new }
-    ensures booked { IsBooked (space_of body.new.indexes) body.new.indexes.regions.slabs }
 {
     let least = body.rooms.of(client).max(UNIT);
     let addrs = addrs.as_slice();
@@ -233,14 +226,9 @@ pub fn step(body: &mut Body, client: u32, op: &Op) -> Result<Reply, NoMemory>
     requires stands { IsTrue (op_stands (space_of body.old.indexes) client op.now) }
     requires room { opens op.now ≡ false → 0 < room_of client body.old.rooms }
     requires body { IsBody body.old }
-    ensures after { OnOk result (space_of body.new.indexes ≡ (step_of (space_of body.old.indexes) client op.now).after) }
-    ensures reply { IfOk result (λ told. told ≡ (step_of (space_of body.old.indexes) client op.now).reply) }
-    ensures rooms { OnOk result (body.new.rooms ≡ rooms_after (standing_of body.old) client op.now) }
-    ensures err { OnErr result (standing_of body.new ≡ standing_of body.old) }
+    ensures turns { Turns body.old body.new client op.now result }
     ensures few { OnOk result (emptied_by_op client op.now (space_of body.old.indexes) ≤ given_by op.now) }
     ensures sure { opens op.now ≡ false → IsOk result }
-    ensures ready { IsReady body.new }
-    ensures booked { IsBooked (space_of body.new.indexes) body.new.indexes.regions.slabs }
 {
     if let Op::Back { addrs } = op {
         return give_back(body, client, addrs);

@@ -1,7 +1,8 @@
 -- What the calls of a book need to know of its regions.
-use Rattle.region_book.proofs.Words.{◌≡◌, ℕ, ◌+◌, ◌-◌, ◌*◌, ◌<◌, ◌≤◌, ◌^◌, Bool, true, false, not, List, [], ◌∷◌, ◌++◌, length-append, map, filter, find, length, Option, None, Some, refl, sym, ◌∙◌, ap, subst, arith, nat_lt, nat_le, ◌&&◌, inl, inr, Every, list_any, range_with_len, option_or, nat_tests, length-range_with_len, size_at, every_map, Region, inserted, landing, region_of, regions_from, starts_at, region_bytes, holds_at, is_given_back, staying, AreApart, IsRising, changed, code_of, absent_changed, absent_filter, change_both, changed_is, drop_both, every_changed, every_landing, found_there, land_left, land_right, Landed, merged, new_apart, taken_out, every_member, found, Bins, BinSlab, is_all_free, with_free, IsHolder, addr_of, Totals, Inside, IsRegionBook, CanCome, IsOf, is_last, slabs_returned, AreMore, AreTotals, CanGrow, CanShrink}
+use Rattle.region_book.proofs.Words.{any_from, eqb-true, member_found, ◌≡◌, ℕ, ◌+◌, ◌-◌, ◌*◌, ◌<◌, ◌≤◌, ◌^◌, Bool, true, false, not, List, [], ◌∷◌, ◌++◌, length-append, map, filter, find, length, Option, None, Some, refl, sym, ◌∙◌, ap, subst, arith, nat_lt, nat_le, ◌&&◌, inl, inr, Every, list_any, range_with_len, option_or, nat_tests, length-range_with_len, size_at, every_map, Region, inserted, landing, region_of, regions_from, starts_at, region_bytes, holds_at, is_given_back, staying, AreApart, IsRising, changed, code_of, absent_changed, absent_filter, change_both, changed_is, drop_both, every_changed, every_landing, found_there, land_left, land_right, Landed, merged, new_apart, taken_out, every_member, found, Bins, BinSlab, is_all_free, with_free, IsHolder, addr_of, Totals, Inside, IsRegionBook, CanCome, IsOf, is_last, slabs_returned, AreMore, AreTotals, CanGrow, CanShrink}
+use Rattle.space_model.proofs.Pieces.{both_true}
 use Rattle.region_book.proofs.Tallies.{HaveCome, can_grow, can_shrink, one_comes, some_come, totals_less, totals_more}
-use Rattle.region_book.proofs.Changes.{can_come, found_so, gives, one_from}
+use Rattle.region_book.proofs.Changes.{can_come, gives, one_from}
 
 -- a holder's number is among those that are told apart
 few_holders : (holder : Option ℕ) → IsHolder holder → code_of holder < 33
@@ -83,30 +84,23 @@ module _ (b : Inside) (is : IsRegionBook b) where
   -- ---- regions that land
 
   module _ (client class count : ℕ) (come : List Region) (low : class < 121) (few : client < 32) (of : Every (IsOf 0 121) come) (have : HaveCome class (Some client) count rs (landing come rs)) (can : CanCome come rs) where
-    grown : CanGrow class (Some client) count b.totals
-    grown = can_grow class (Some client) count rs (landing come rs) have b.totals low (few_holders (Some client) few) is.totals (every_landing addr_of (IsOf 0 121) come rs of all_of) can.fits
+    lands : (xs' ys' : List Region) → AreApart addr_of xs' ys' × (landing come rs ≡ landing xs' ys') → Lands class (Some client) count (landing come rs) xs' ys' b.totals
+    lands xs' ys' split = record {
+      room = can_grow class (Some client) count rs (landing come rs) have b.totals low (few_holders (Some client) few) is.totals (every_landing addr_of (IsOf 0 121) come rs of all_of) can.fits;
+      apart = split.0;
+      regions = sym split.1;
+      totals = λ u more. subst (AreTotals u) split.1 (totals_more class (Some client) count rs (landing come rs) have b.totals u more is.totals);
+    }
 
     pub lands_small : (now : List Region) → now ≡ landing come ys → Lands class (Some client) count (landing come rs) xs now b.totals
     lands_small now new =
         let fresh = can_come come rs can.alone in
-        let right = land_right addr_of come xs ys is.apart fresh.0 fresh.1 in
-        subst (λ ms. Lands class (Some client) count (landing come rs) xs ms b.totals) (sym new) (record {
-          room = grown;
-          apart = right.0;
-          regions = sym right.1;
-          totals = λ u more. subst (AreTotals u) right.1 (totals_more class (Some client) count rs (landing come rs) have b.totals u more is.totals);
-        })
+        subst (λ ms. Lands class (Some client) count (landing come rs) xs ms b.totals) (sym new) (lands xs (landing come ys) (land_right addr_of come xs ys is.apart fresh.0 fresh.1))
 
     pub lands_large : (now : List Region) → now ≡ landing come xs → Lands class (Some client) count (landing come rs) now ys b.totals
     lands_large now new =
         let fresh = can_come come rs can.alone in
-        let left = land_left addr_of come xs ys is.apart fresh.0 fresh.1 in
-        subst (λ ms. Lands class (Some client) count (landing come rs) ms ys b.totals) (sym new) (record {
-          room = grown;
-          apart = left.0;
-          regions = sym left.1;
-          totals = λ u more. subst (AreTotals u) left.1 (totals_more class (Some client) count rs (landing come rs) have b.totals u more is.totals);
-        })
+        subst (λ ms. Lands class (Some client) count (landing come rs) ms ys b.totals) (sym new) (lands (landing come xs) ys (land_left addr_of come xs ys is.apart fresh.0 fresh.1))
 
   -- the first regions of an extent
   pub slab_lands : {bins : Bins} (client class addr count n : ℕ) (now : List Region) → bins ≡ record b.bins { client = client } → class < 36 → client < 32 → n ≡ count
@@ -130,11 +124,8 @@ module _ (b : Inside) (is : IsRegionBook b) where
   page_free client class addr can =
       let new = new_apart addr_of (regions_from client class addr 1) rs (can_come (regions_from client class addr 1) rs can.alone).1 addr in
       let here : find (starts_at addr) (regions_from client class addr 1) ≡ Some (region_of client class addr) = ap (find (starts_at addr)) (one_from client class addr) ∙ grind (arith, nat_tests) in
-      elim new [ inl n ↦ absurd (cc) | inr n ↦ first_none (find (starts_at addr) xs) (find (starts_at addr) ys) (sym (both.finds addr) ∙ n) ]
-    where
-      first_none : (o u : Option Region) → option_or o u ≡ None → o ≡ None
-      first_none None u e = refl
-      first_none (Some x) u e = absurd (cc)
+      let none : option_or (find (starts_at addr) xs) (find (starts_at addr) ys) ≡ None = (elim new [ inl n ↦ absurd (cc) | inr n ↦ sym (both.finds addr) ∙ n ]) in
+      grind (arith, none)
 
   pub page_lands : (client class addr : ℕ) (now : List Region) → class < 121 → client < 32 → CanCome (regions_from client class addr 1) rs
       → now ≡ inserted (region_of client class addr) xs → Lands class (Some client) 1 (landing (regions_from client class addr 1) rs) now ys b.totals
@@ -226,13 +217,10 @@ module _ (b : Inside) (is : IsRegionBook b) where
   -- one that is there is among the large ones
   pub large_there : (addr : ℕ) → list_any (is_large addr) rs ≡ true → (r : Region) × (find (starts_at addr) xs ≡ Some r)
   large_there addr there =
-      let t = found_so (λ r. nat_le 36 r.class) addr rs both.rising (sym (any_turned rs) ∙ there) in
-      either t.0 (find (starts_at addr) xs) refl t.3 t.2
+      let m = any_from (is_large addr) rs there in
+      let is = both_true (starts_at addr m.0) (nat_le 36 m.0.class) m.2 in
+      either m.0 (find (starts_at addr) xs) refl (ap (λ a. find (starts_at a) rs) (sym (eqb-true _ _ is.0)) ∙ member_found addr_of rs m.0 both.rising m.1) is.1
     where
-      any_turned : (ms : List Region) → list_any (is_large addr) ms ≡ list_any (λ r. nat_le 36 r.class && starts_at addr r) ms
-      any_turned [] = refl
-      any_turned (r ∷ ms) = grind (arith, any_turned ms)
-
       either : (q : Region) (o : Option Region) → find (starts_at addr) xs ≡ o → find (starts_at addr) rs ≡ Some q → nat_le 36 q.class ≡ true → (r : Region) × (find (starts_at addr) xs ≡ Some r)
       either q (Some r) e both large = (r, e)
       either q None e both large =

@@ -1,5 +1,5 @@
 -- Numbers by class and by holder, as lists.
-use Rattle.region_book.proofs.Words.{◌≡◌, ◌≢◌, ℕ, ◌+◌, ◌<◌, not, cond, ltb, length-set, List, [], ◌∷◌, length, get_or, set, map, take, drop, sym, refl, ap, ◌∙◌, arith, dite, ℕ_discrete, range_with_len, ext_get_or, get_or-set_same, get_or-set_other, length-map-range_with_len, get_or-map-range_with_len, sum_by-cons, size_at, Region, region_bytes, region_bytes_where, regions_by_class, IsMoreAt}
+use Rattle.region_book.proofs.Words.{◌≡◌, ◌≢◌, ℕ, ◌+◌, ◌<◌, not, cond, ltb, List, [], ◌∷◌, length, get_or, map, sym, refl, ap, ◌∙◌, arith, dite, ℕ_discrete, range_with_len, ext_get_or, length-map-range_with_len, get_or-map-range_with_len, sum_by-cons, size_at, Region, region_bytes, region_bytes_where, IsMoreAt}
 
 -- the numbers of so many classes
 abbrev pub tally : (ℕ → ℕ) → ℕ → List ℕ
@@ -29,13 +29,6 @@ tally_less f g n place count less more is here others e =
     dite (ℕ_discrete k place)
     (λ same. let at : get_or more place 0 ≡ g place = ap (λ j. get_or more j 0) (sym same) ∙ was ∙ ap g same in let one = is.here in let two : get_or less place 0 ≡ f place = omega arith in ap (λ j. get_or less j 0) same ∙ two ∙ ap f (sym same))
     (λ other. sym (is.others k other) ∙ was ∙ others k other))
-
--- the numbers of the small classes come first, and those of the large ones behind them
-pub small_first : (regions : List Region) → take 36 (regions_by_class 0 121 regions) ≡ regions_by_class 0 36 regions
-small_first regions = refl
-
-pub large_last : (regions : List Region) → take 85 (drop 36 (regions_by_class 0 121 regions)) ≡ regions_by_class 36 85 regions
-large_last regions = refl
 
 -- the bytes of the small and of the large ones are all bytes
 pub both_bytes : (regions : List Region) → region_bytes_where (λ class. ltb class 36) regions + region_bytes_where (λ class. not (ltb class 36)) regions ≡ region_bytes regions

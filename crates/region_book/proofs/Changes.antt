@@ -1,5 +1,6 @@
 -- What is told of regions by address: what a client gives back, what is published, and what can come.
 use Rattle.region_book.proofs.Words.{◌≡◌, ℕ, ◌+◌, ◌*◌, ◌≤◌, Bool, true, false, not, eqb, eqb-true, List, [], ◌∷◌, length, filter, find, Option, None, Some, refl, sym, ◌∙◌, ap, arith, ◌&&◌, count_by, Contains, list_any, nat_tests, sum_by-cons, size_at, Region, is_held_by, is_held_by_other, landing, region_of, regions_from, starts_at, is_published_at, holds_at, is_given_back, staying, AreDistinct, AreNew, IsRising, code_of, distinct_new, found_alone, member_found, any_from, bit, filter_same, find_closer, found, addr_of, if_published}
+use Rattle.space_model.proofs.Pieces.{both_true}
 use Rattle.region_book.proofs.Tallies.{landing_sum}
 
 -- where no two begin at one address afterwards, what comes is distinct and new
@@ -20,16 +21,8 @@ same_region rs q r rising m n e =
 pub found_so : (test : Region → Bool) (addr : ℕ) (rs : List Region) → IsRising addr_of rs → list_any (λ r. test r && starts_at addr r) rs ≡ true → (r : Region) × Contains rs r × (test r ≡ true) × (find (starts_at addr) rs ≡ Some r)
 found_so test addr rs rising there =
     let m = any_from (λ r. test r && starts_at addr r) rs there in
-    let at = eqb-true (m.0).addr addr (and_right (test m.0) (starts_at addr m.0) m.2) in
-    (m.0, m.1, and_left (test m.0) (starts_at addr m.0) m.2, ap (λ a. find (starts_at a) rs) (sym at) ∙ member_found addr_of rs m.0 rising m.1)
-  where
-    and_left : (a b : Bool) → (a && b) ≡ true → a ≡ true
-    and_left true b e = refl
-    and_left false b e = e
-
-    and_right : (a b : Bool) → (a && b) ≡ true → b ≡ true
-    and_right true b e = e
-    and_right false b e = absurd (cc)
+    let both = both_true (test m.0) (starts_at addr m.0) m.2 in
+    (m.0, m.1, both.0, ap (λ a. find (starts_at a) rs) (sym (eqb-true _ _ both.1)) ∙ member_found addr_of rs m.0 rising m.1)
 
 -- What the client's region at an address is, and what stays without it.
 pub record Given (c addr : ℕ) (rs : List Region) (r : Region) : Type 0 where

@@ -1,5 +1,5 @@
 -- The totals of regions as some come or go.
-use Rattle.region_book.proofs.Words.{◌≡◌, ◌≢◌, ℕ, ◌+◌, ◌*◌, ◌<◌, ◌≤◌, ◌^◌, Bool, true, false, cond, eqb, eq-eqb, ne_eqb, nat_lt, List, [], ◌∷◌, get_or, map, length, count_by, Option, Some, sym, refl, ap, ◌∙◌, arith, Every, position_or_len, sum_by, sum_by-cons, sum_by-insert, sum_by-le-sum_by, size_at, size_bounds, Region, inserted, landing, region_of, region_bytes, region_bytes_where, code_of, bit, Totals, IsOf, AreMore, AreTotals, CanGrow, CanShrink, small_size_at}
+use Rattle.region_book.proofs.Words.{◌≡◌, ◌≢◌, ℕ, ◌+◌, ◌*◌, ◌<◌, ◌≤◌, ◌^◌, true, false, cond, eqb, eq-eqb, ne_eqb, nat_lt, List, [], ◌∷◌, get_or, map, length, count_by, Option, Some, sym, refl, ap, ◌∙◌, arith, Every, position_or_len, sum_by, sum_by-cons, sum_by-insert, sum_by-le-sum_by, size_at, size_bounds, Region, inserted, landing, region_of, region_bytes, region_bytes_where, code_of, bit, Totals, IsOf, AreMore, AreTotals, CanGrow, CanShrink, small_size_at}
 use Rattle.region_book.proofs.ByClass.{at_tally, tally_less, tally_more}
 
 -- how many regions are of a class, and how many a holder has
@@ -81,9 +81,6 @@ module _ (class : ℕ) (holder : Option ℕ) (count : ℕ) (less more : List Reg
   few f [] one of = omega arith
   few f (r ∷ rs) one of = omega (arith, one r, size_bounds r.class of.0.class, few f rs one of.1, sum_by-cons f r rs, sum_by-cons (λ (q : Region). size_at q.class) r rs)
 
-  one_most : (b : Bool) → bit b ≤ 1
-  one_most b = grind arith
-
   pub can_grow : (t : Totals) → class < 121 → code_of holder < 33 → AreTotals t less → Every (IsOf 0 121) more → region_bytes more < 2 ^ 64 → CanGrow class holder count t
   can_grow t low held totals of fits = record {
     low = low;
@@ -91,8 +88,8 @@ module _ (class : ℕ) (holder : Option ℕ) (count : ℕ) (less more : List Reg
     number = omega (arith, number, totals.number, few (λ r. 1) more (λ r. omega arith) of, all_count more, fits);
     bytes = let n = come (λ r. size_at r.class) (size_at class) (λ a. refl) in omega (arith, n, totals.bytes, fits);
     small = let n = come (λ r. small_size_at r.class) (small_size_at class) (λ a. refl) in omega (arith, n, totals.small, fits, small_few more);
-    of_class = omega (arith, of_class, ap (λ l. get_or l class 0) totals.classes, at_tally (number_of less) 121 class low, few (λ r. bit (eqb r.class class)) more (λ r. one_most (eqb r.class class)) of, fits);
-    of_holder = omega (arith, of_holder, ap (λ l. get_or l (code_of holder) 0) totals.holders, at_tally (held_of less) 33 (code_of holder) held, few (λ r. bit (eqb (code_of r.holder) (code_of holder))) more (λ r. one_most (eqb (code_of r.holder) (code_of holder))) of, fits);
+    of_class = omega (arith, of_class, ap (λ l. get_or l class 0) totals.classes, at_tally (number_of less) 121 class low, few (λ r. bit (eqb r.class class)) more (λ r. grind arith) of, fits);
+    of_holder = omega (arith, of_holder, ap (λ l. get_or l (code_of holder) 0) totals.holders, at_tally (held_of less) 33 (code_of holder) held, few (λ r. bit (eqb (code_of r.holder) (code_of holder))) more (λ r. grind arith) of, fits);
   }
     where
       small_few : (rs : List Region) → region_bytes_where (λ c. nat_lt c 36) rs ≤ region_bytes rs

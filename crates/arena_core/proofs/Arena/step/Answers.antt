@@ -3,14 +3,11 @@ use Rattle.arena_core.proofs.Outcomes.{stepped}
 use Rattle.arena_core.proofs.Arena.step.Goals as goal
 
 pub invariant_of-self : goal.invariant_of-self
-invariant_of-self c =
-    (stepped c.args.client c.args.op.now c.self.view_is c.self.invariant c.requires.stands c.step.ensures.after c.step.ensures.reply c.step.ensures.rooms
-    c.step.ensures.err c.step.ensures.ready c.step.ensures.booked).body
+invariant_of-self c = (stepped c.args.client c.args.op.now c.self.view_is c.self.invariant c.requires.stands c.step.ensures.turns).body
 
 pub returns : goal.returns
 returns c =
-    let s = stepped c.args.client c.args.op.now c.self.view_is c.self.invariant c.requires.stands c.step.ensures.after c.step.ensures.reply c.step.ensures.rooms
-    c.step.ensures.err c.step.ensures.ready c.step.ensures.booked in record {
+    let s = stepped c.args.client c.args.op.now c.self.view_is c.self.invariant c.requires.stands c.step.ensures.turns in record {
       after = s.after;
       reply = s.reply;
       room = s.room;

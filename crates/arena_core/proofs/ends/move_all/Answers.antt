@@ -1,10 +1,6 @@
-use Rattle.arena_core.proofs.Words.{◌≡◌, false, refl, ◌∙◌, arith, Part, Rest, listed, moved_to, goes_to}
+use Rattle.arena_core.proofs.Words.{refl, ◌∙◌, arith, Part, moved_to, goes_to}
 use Rattle.arena_core.proofs.Rounds.{walk_begins, walk_ends, walk_goes}
 use Rattle.arena_core.proofs.ends.move_all.Goals as goal
-
--- what is listed somewhere doesn't go there
-stays : (rest : Rest) → goes_to rest (listed rest) ≡ false
-stays rest = grind arith
 
 pub loop-part-init : goal.loop-part-init
 loop-part-init c = record { walk = walk_begins (λ p. goes_to c.args.rest p.state) (moved_to c.args.rest) c.args.extents.now.parts c.requires; spare = refl }
@@ -12,7 +8,7 @@ loop-part-init c = record { walk = walk_begins (λ p. goes_to c.args.rest p.stat
 pub loop-part-preserved : goal.loop-part-preserved
 loop-part-preserved c = record {
   walk = walk_goes (λ (p : Part). goes_to c.args.rest p.state) (moved_to c.args.rest) c.args.extents.now.parts c.loop-part.extents.parts c.move_one.new.extents.parts c.loop-part.page c.in-Some.part
-      (λ q. refl) (stays c.args.rest) c.in-Some.ensures.there c.in-Some.ensures.first.first c.move_one.ensures.parts c.loop-part.invariant.walk;
+      (λ q. refl) (grind arith) c.in-Some.ensures.there c.in-Some.ensures.first.first c.move_one.ensures.parts c.loop-part.invariant.walk;
   spare = c.move_one.ensures.spare ∙ c.loop-part.invariant.spare;
 }
 

@@ -1,4 +1,4 @@
-use Rattle.arena_core.proofs.Words.{ap, arith, subst, sym, ◌∙◌, CanBeSlab, slabs_landed, space_of}
+use Rattle.arena_core.proofs.Words.{rules, ap, arith, subst, sym, ◌∙◌, CanBeSlab, slabs_landed, space_of}
 use Rattle.arena_core.proofs.Landed.{fitting}
 use Rattle.arena_core.proofs.Homes.{in_flight}
 use Rattle.arena_core.proofs.moves.land_done.Goals as goal
@@ -17,6 +17,7 @@ land-requires c =
       can_come = fit.come c.requires.live;
     }
 
-pub returns-clause-slabs : goal.returns-clause-slabs
-returns-clause-slabs c =
-    c.land.ensures.slabs ∙ ap (λ n. slabs_landed c.args.class n c.args.count c.args.indexes.now.regions.slabs) (in_flight c.args.client (space_of c.args.indexes.now) c.args.span c.in-Some.part c.requires.sound c.in-Some.ensures.flight).first
+pub returns : goal.returns
+returns c =
+    let slabs = c.land.ensures.slabs ∙ ap (λ n. slabs_landed c.args.class n c.args.count c.args.indexes.now.regions.slabs) (in_flight c.args.client (space_of c.args.indexes.now) c.args.span c.in-Some.part c.requires.sound c.in-Some.ensures.flight).first in
+    record { after = search rules; reply = search rules; slabs = slabs; places = search rules }

@@ -1,4 +1,4 @@
-use Rattle.arena_core.proofs.Words.{arith, subst, sym, Dalloc, OfferDone, after_offer, keep_offer, Sound, op_keeps, space_of}
+use Rattle.arena_core.proofs.Words.{rules, arith, subst, sym, Dalloc, OfferDone, after_offer, keep_offer, Sound, op_keeps, space_of}
 use Rattle.arena_core.proofs.offers.offer_done.Goals as goal
 
 pub keep_offer-requires-clause-sound : goal.keep_offer-requires-clause-sound
@@ -9,6 +9,10 @@ keep_offer-requires-clause-sound c =
     let answered = subst (λ answer. Sound (after_offer s c.args.client c.args.found (Dalloc c.in-Dalloc.span c.in-Dalloc.committed) answer).after) c.in-Refused.is asked in
     subst (λ offers. Sound (keep_offer (record s { offers = offers }) c.args.client c.args.found c.in-Dalloc.span c.in-Dalloc.committed).after) (sym c.take-in-Refused.ensures.offers) answered
 
-pub returns-in-Refused-clause-places : goal.returns-in-Refused-clause-places
-returns-in-Refused-clause-places c = λ n h.
-    c.keep_offer.ensures.places n (record { extents = h.extents; regions = h.regions; offers = omega (arith, h.offers, c.take-in-Refused.ensures.spare) })
+pub returns-in-Refused : goal.returns-in-Refused
+returns-in-Refused c = record {
+  after = search rules;
+  reply = search rules;
+  slabs = search rules;
+  places = λ n h. c.keep_offer.ensures.places n (record { extents = h.extents; regions = h.regions; offers = omega (arith, h.offers, c.take-in-Refused.ensures.spare) });
+}

@@ -1,4 +1,4 @@
-use Rattle.arena_core.proofs.Words.{◌≡◌, ℕ, ◌+◌, ◌-◌, ◌*◌, not, ltb, arith, rules, ToDirty, ToMuzzy, ToRetained, is_active, is_listed, bytes_where, is_mapped, region_bytes_where, space_of, both_bytes}
+use Rattle.arena_core.proofs.Words.{◌≡◌, ℕ, ◌+◌, ◌-◌, ◌*◌, not, ltb, arith, rules, ToDirty, ToMuzzy, ToRetained, is_active, is_listed, bytes_where, is_mapped, is_in_flight, region_bytes_where, space_of, both_bytes}
 use Rattle.arena_core.proofs.Books.{slabs_counted}
 use Rattle.arena_core.proofs.Totals.{summed}
 use Rattle.arena_core.proofs.readers.counts.Goals as goal
@@ -17,6 +17,7 @@ returns c =
     let muzzy : 4096 * c.listed_pages-muzzy.result ≡ bytes_where (is_listed ToMuzzy) parts = omega arith in
     let retained : 4096 * c.listed_pages-retained.result ≡ bytes_where (is_listed ToRetained) parts = omega arith in
     let mapped : 4096 * c.all_pages.result - 4096 * c.listed_pages-retained.result ≡ bytes_where is_mapped parts = omega arith in
+    let flight : 4096 * c.all_pages.result - 4096 * c.listed_pages-retained.result - (4096 * c.active_pages-active.result + 4096 * c.listed_pages-dirty.result + 4096 * c.listed_pages-muzzy.result) ≡ bytes_where is_in_flight parts = omega arith in
     let large : c.bytes-allocated.result - c.small_bytes-small.result ≡ region_bytes_where (λ class. not (ltb class 36)) regions =
     omega (arith, allocated, c.small_bytes-small.ensures, both_bytes regions) in
     λ i. record {
@@ -25,7 +26,7 @@ returns c =
       dirty = dirty i;
       muzzy = muzzy i;
       retained = retained i;
-      flight = flight _ _ _ _ mapped active dirty muzzy sums.mapped i;
+      flight = flight i;
       mapped = mapped i;
       small = c.small_bytes-small.ensures i;
       large = large i;
@@ -33,6 +34,3 @@ returns c =
       slabs = slabs_counted (space_of c.args.indexes.now) c.args.indexes.now.regions.slabs c.slabs.result c.requires.booked (search rules) c.slabs.ensures i;
       lextents = c.large_numbers.ensures i;
     }
-  where
-    flight : (m a d z : ℕ) {n b e y f : ℕ} → m ≡ n → a ≡ b → d ≡ e → z ≡ y → n ≡ b + e + y + f → m - (a + d + z) ≡ f
-    flight m a d z p q r t sum = omega arith

@@ -13,14 +13,16 @@ returns c =
     let new = ap all_rooms (c.set.ensures ∙ (λ i. slice_set (rooms i) c.args.client c.max-2.result)) in
     let few : c.max-2.result ≤ c.max.result = omega (arith, c.give_back-emptied.ensures.few, c.max.ensures, c.max-2.ensures, c.in_ok-most.ensures) in
     let fewer = rooms_fewer c.args.body.now.rooms c.args.client c.max-2.result c.max.result (omega (arith, c.requires.client, c.requires.body.clients)) few in record {
-      after = after;
-      reply = ap Next (c.next_flight.ensures ∙ ap (λ (s : Space). next_flight c.args.client s.parts) after);
-      rooms = c.set.ensures ∙ (λ i. slice_set (rooms i) c.args.client (room i));
-      few = omega (arith, counted, c.give_back-emptied.ensures.few, ap length c.as_slice-addrs.ensures);
-      err = tt;
-      ready = record {
-        places = c.give_back-emptied.ensures.places _ c.make_places.ensures.ready.places;
-        rooms = omega (arith, new, fewer, c.in_ok-make_places.ensures.ok);
+      turns = record {
+        after = after;
+        reply = ap Next (c.next_flight.ensures ∙ ap (λ (s : Space). next_flight c.args.client s.parts) after);
+        rooms = c.set.ensures ∙ (λ i. slice_set (rooms i) c.args.client (room i));
+        err = tt;
+        ready = record {
+          places = c.give_back-emptied.ensures.places _ c.make_places.ensures.ready.places;
+          rooms = omega (arith, new, fewer, c.in_ok-make_places.ensures.ok);
+        };
+        booked = c.give_back-emptied.ensures.booked;
       };
-      booked = c.give_back-emptied.ensures.booked;
+      few = omega (arith, counted, c.give_back-emptied.ensures.few, ap length c.as_slice-addrs.ensures);
     }
