@@ -4,9 +4,7 @@ use Rattle.call_plan.specs.Words.{NoArena}
 use Rattle.heap_core.proofs.Hands.{Count, Hands, Single, hands_come, hands_discard, hands_part}
 use Rattle.heap_core.proofs.Having.{Shaped, discard_shaped, free_gains, of_hand, over, share_all}
 use Rattle.heap_core.proofs.Parting.{Parts, addrs_any, batch_addrs, gave_parts}
-use Rattle.heap_core.proofs.Regions.{any_at, back_counts, count_at, landed_counts, none_elsewhere, one_in, published_counts}
-use Rattle.heap_core.proofs.Singles.{behind_is, taken_counts}
-use Rattle.heap_core.proofs.Steady.{op_regions}
+use Rattle.heap_core.proofs.Regions.{any_at, back_counts, behind_is, count_at, landed_counts, none_elsewhere, one_in, op_regions, published_counts, taken_counts}
 use Rattle.heap_core.proofs.Suiting.{came}
 
 -- What a client has after a turn is what it holds then, and in order.

@@ -1,8 +1,7 @@
 -- The regions that a client has are those that it holds in the arenas, however they are counted there.
 use Rattle.heap_core.proofs.Words.{◌≡◌, ◌≢◌, ℕ, ◌+◌, ◌<◌, ◌≤◌, ◌==◌, ◌&&◌, ◌||◌, inl, inr, Bool, true, false, cond, List, [], ◌∷◌, All, None, Some, length, get_or, cases_lt, refl, sym, ◌∙◌, ap, subst, arith, suc, nat_eq, filter, count_by, flat_map, sum_by, lookup, eqb-true, nat_tests, All-head, All-tail, get_or-le-sum_by, sum_by-cons, Region, eqb_itself, ones, is_elsewhere, discarding, holding, is_in_arena, Held, DeskFacts, cached_of, held_at, is_region, both_true, Has}
-use Rattle.heap_core.proofs.Entries.{IsKeyed, none_found, of_entry}
+use Rattle.heap_core.proofs.Having.{IsKeyed, Shaped, hold_over, none_found, of_entry, of_hand, over}
 use Rattle.heap_core.proofs.Clients.{at_or_else}
-use Rattle.heap_core.proofs.Having.{Shaped, hold_over, of_hand, over}
 use Rattle.heap_core.proofs.Parting.{Parts}
 use Rattle.heap_core.proofs.Regions.{any_at, filtered_sum, one_in}
 

@@ -1,7 +1,6 @@
 -- The regions that go back of those that a client has.
 use Rattle.heap_core.proofs.Words.{◌≡◌, ℕ, ◌+◌, ◌<◌, ◌==◌, ◌&&◌, ◌||◌, Bool, true, false, cond, List, [], ◌∷◌, ◌++◌, All, Option, None, Some, map, take, drop, slice_set, refl, sym, ◌∙◌, ap, subst, arith, nat_lt, filter, fold, insert_key, flat_map, list_any, sum_by, nat_cmp, ltb-true, nat_tests, length-map, get_or-map, flat_map-cons, All-append, All-drop, All-filter, All-take, filter-append, sum_by-filter_both, sum_by-append, sum_by-cons, sum_by-take-drop, gone_from, is_elsewhere, added, addrs_in, gave, gave_with, is_in_arena, lesser, older_count, Held, DeskFacts, BatchFacts, batch_of, going, going_with, is_cacheable, cached_in, both_true, eq-eqb}
-use Rattle.heap_core.proofs.Entries.{sum_set}
-use Rattle.heap_core.proofs.Having.{Shaped, of_hand, over, set_classed}
+use Rattle.heap_core.proofs.Having.{Shaped, of_hand, over, set_classed, sum_set}
 
 -- ---- the addresses of a batch
 

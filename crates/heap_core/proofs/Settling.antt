@@ -5,8 +5,7 @@ use Rattle.heap_core.proofs.Clients.{sound_at, at_or_else}
 use Rattle.heap_core.proofs.Hands.{Count, Hands, Single, had_counts, hand_alone, hands_held, no_more}
 use Rattle.heap_core.proofs.Having.{CanKeep, Settles, Shaped, hold_settles, hold_shaped, keep_settles, of_hand, over}
 use Rattle.heap_core.proofs.Parting.{no_batch}
-use Rattle.heap_core.proofs.Regions.{one_in}
-use Rattle.heap_core.proofs.Singles.{held_page, most_one, two_classes}
+use Rattle.heap_core.proofs.Regions.{held_page, most_one, one_in, two_classes}
 use Rattle.heap_core.proofs.Suiting.{Suited, SuitsAnswer}
 use Rattle.heap_core.proofs.Turned.{one_owner, past}
 

@@ -1,11 +1,228 @@
 -- The laws of the clients of a heap, and that the clients of a new one rest.
-use Rattle.heap_core.proofs.Words.{◌≡◌, ℕ, ◌+◌, ◌<◌, ◌≤◌, ◌==◌, true, false, cond, List, [], All, refl, sym, ap, subst, arith, suc, zero, get_or, replicate, count_by, range_with_len, nat_tests, All-nil, absent_space, first_space, Mine, mine, Held, no_record, opening_records, mine_in, Record, opening_space, OpeningSits, is_region, is_in, cases_lt, inl, inr}
-use Rattle.heap_core.proofs.Entries.{IsKeyed}
+use Rattle.heap_core.proofs.Words.{◌≡◌, ℕ, ◌+◌, ◌<◌, ◌≤◌, ◌==◌, true, false, cond, List, [], All, refl, sym, ap, subst, arith, suc, zero, get_or, replicate, count_by, range_with_len, nat_tests, All-nil, absent_space, first_space, Mine, mine, Held, no_record, opening_records, mine_in, Record, opening_space, OpeningSits, is_region, is_in, cases_lt, inl, inr, rules, ◌≢◌, ◌*◌, ◌&&◌, ◌||◌, Bool, IsTrue, ◌∷◌, Option, None, Some, length, max, ◌∙◌, lt-ltb, list_any, get_or-set_same, All-cons, sum_by-cons, Publish, holds_at, is_live, emptied_by_op, room_after, room_of, not_holding, Request, Flush, Wish, Then, Change, TurnPoint, Filling, Looking, Landing, Giving, Resetting, Destroying, Publishing, AskPoint, Skipping, Point, Turns, Asks, Tells, Next, Go, Op, Setting, Space, Part, Span, DeskFacts, BatchFacts, held_at, CallFacts, Alone, Flies, Gets, GivesBack, HasOffered, Idle, Knows, KnowsAsk, KnowsTurn, HasPair, is_held, KnowsNext, Ready, flying, needed_at, batch_goes, stage, batches-know, live_where, region_found, IsArenas, record_after, record_at, room_in, CanTurn, IsIdle, after_turn, AimsSit, HasRegions, HoldersPublish, IsSeated, IsTheHand, Sits, SitsAt, Suits, SuitsAsk, SuitsChange, SuitsGet, SuitsThen, SuitsTurn, or-false}
+use Rattle.heap_core.proofs.Having.{IsKeyed, drop_over, drop_shaped}
 use Rattle.heap_core.proofs.Turned.{opening_at, past}
 pub use Rattle.heap_core.proofs.Begins.{starts-sit}
 pub use Rattle.heap_core.proofs.Turns.{asks-sit, others-sit, starves-sit, turns-sit}
-pub use Rattle.heap_core.proofs.Publishing.{aims-sit, holders-publish}
 pub use Rattle.heap_core.proofs.Clients.{asks-lead_on}
+use Rattle.call_plan.proofs.Own.{Nothing}
+use Rattle.heap_core.proofs.Clients.{at_or_else, by_arena, sound_at}
+use Rattle.heap_core.proofs.Hands.{had_counts, hands_part, held_is}
+use Rattle.heap_core.proofs.Parting.{Parts}
+use Rattle.heap_core.proofs.Regions.{count_at, published_counts}
+use Rattle.heap_core.proofs.Settling.{Owns, any_region, count_in, counts_low, has_owns, is_ready, owns_has, single_in}
+use Rattle.heap_core.proofs.Turns.{count_else, count_here, still_bound, was_bound}
+
+-- ---- what suits a point doesn't hang on what is held
+
+abbrev held_as : List (ℕ × Held) → DeskFacts → DeskFacts
+held_as held desk = record desk { held = held }
+
+get_held : (held : List (ℕ × Held)) (desk : DeskFacts) (arena class count : ℕ) → SuitsGet desk arena class count → SuitsGet (held_as held desk) arena class count
+get_held held desk arena class count suits = record { empty = suits.empty; own = suits.own; slots = suits.slots }
+
+later_held : (held : List (ℕ × Held)) (desk : DeskFacts) (later : Then) → SuitsThen desk later → SuitsThen (held_as held desk) later
+later_held held desk later suits = grind arith
+
+change_held : (held : List (ℕ × Held)) (desk : DeskFacts) (arena : ℕ) (setting : Setting) (change : Change) → SuitsChange desk arena setting change → SuitsChange (held_as held desk) arena setting change
+change_held held desk arena setting change suits = grind arith
+
+ask_held : (held : List (ℕ × Held)) (desk : DeskFacts) (arena : ℕ) (point : AskPoint) → SuitsAsk desk arena point → SuitsAsk (held_as held desk) arena point
+ask_held held desk arena point suits = grind (arith, get_held, later_held)
+
+turn_held : (held : List (ℕ × Held)) (desk : DeskFacts) (request : Request) (arena : ℕ) (point : TurnPoint) → SuitsTurn desk request arena point → SuitsTurn (held_as held desk) request arena point
+turn_held held desk request arena point suits = grind (arith, get_held, later_held, change_held)
+
+suits_held : (held : List (ℕ × Held)) (desk : DeskFacts) (request : Request) (arena : ℕ) (point : Point) → Suits desk request arena point → Suits (held_as held desk) request arena point
+suits_held held desk request arena point suits = grind (arith, turn_held, ask_held)
+
+-- ---- what is known again
+
+-- What a client owns but for its regions is as it was.
+pub record Alike (m m' : Mine) : Type 0 where
+  pub flights : m'.flights ≡ m.flights
+  pub offers : m'.offers ≡ m.offers
+  pub bound : m'.bound ≡ m.bound
+  pub dying : m'.dying ≡ m.dying
+
+idle_again : (m m' : Mine) → Alike m m' → Idle m → Idle m'
+idle_again m m' alike idle = record { flights = alike.flights ∙ idle.flights; offers = alike.offers ∙ idle.offers }
+
+module _ (records : List Record) (c arena : ℕ) (desk : DeskFacts) (request : Request) (m : Mine) (owns : Owns records c [] desk) (alike : Alike m (mine_in records c arena)) (others : (i : ℕ) → i ≢ arena → Idle (mine_in records c i)) where
+  abbrev m' : Mine
+  m' = mine_in records c arena
+
+  all_idle : Idle m' → IsIdle records c
+  all_idle idle i = at_or_else (λ n. Idle (mine_in records c n)) i arena (λ same. idle) (others i)
+
+  ready : Idle m → (next : Next) → Ready m' desk (stage arena next)
+  ready idle next = is_ready records c desk (stage arena next) owns (all_idle (idle_again m m' alike idle))
+
+  gets_again : (wish : Wish) (count : ℕ) → SuitsGet desk arena wish.class count → Gets m wish → Gets m' wish
+  gets_again wish count suits gets = record {
+    is = gets.is;
+    served = ap (λ v. v || list_any (λ _. true) m'.regions) (subst (λ n. (mine_in records c n).bound ≡ true) (sym suits.own) owns.bound);
+  }
+
+  alone_again : (span : Span) (b : Bool) → Alone m span b → Alone m' span b
+  alone_again span b alone = grind arith
+
+  flies_again : (span : Span) (P : Part → Type 0) → Flies m span P → Flies m' span P
+  flies_again span P flies = grind arith
+
+  pair_again : (low high : Span) (fresh : Bool) → HasPair m low high fresh → HasPair m' low high fresh
+  pair_again low high fresh pair = grind arith
+
+  offered_again : (span : Span) → HasOffered m span → HasOffered m' span
+  offered_again span offered = grind arith
+
+  gives_again : (addrs : List ℕ) → SuitsTurn desk request arena (Giving addrs) → GivesBack m addrs → GivesBack m' addrs
+  gives_again addrs suits gives =
+      let batch : BatchFacts = record { arena = arena; addrs = addrs } in
+      let at : Next = Go (Turns (Giving addrs)) in
+      let know : Ready m' desk (batch_goes arena (Some batch)) → KnowsNext m' at = subst (λ o. Ready m' desk (batch_goes arena o) → KnowsNext m' (batch_goes arena o).next) suits (batches-know m' request desk arena) in
+      know (ready gives.idle at)
+
+  hand_again : (addr : ℕ) (hand : Option Held) → desk.hand ≡ hand → IsTheHand arena addr hand → Idle m → is_held m' addr ≡ true
+  hand_again addr None e is idle = absurd is
+  hand_again addr (Some r) e is idle = subst (λ a. is_held m' a ≡ true) is.0 ((ready idle (Go (Turns (Publishing addr)))).holds r (inr (inr e)) (sym is.1))
+
+  turn_again : (point : TurnPoint) → SuitsTurn desk request arena point → KnowsTurn m point → KnowsTurn m' point
+  turn_again (Filling wish count) suits knows = (gets_again wish count suits.0 knows.0, idle_again m m' alike knows.1, knows.2, knows.3)
+  turn_again (Looking wish) suits knows = (gets_again wish wish.count suits knows.0, idle_again m m' alike knows.1)
+  turn_again (Landing wish span) suits knows = (gets_again wish wish.count suits knows.0, alone_again span true knows.1, knows.2)
+  turn_again (Giving addrs) suits knows = gives_again addrs suits knows
+  turn_again (Resetting cached) suits knows =
+      (idle_again m m' alike knows.0, (let few = (ready knows.0 (Go (Turns (Resetting cached)))).cached in omega (arith, few, suits.1)))
+  turn_again (Destroying cached) suits knows =
+      (idle_again m m' alike knows.0, (let few = (ready knows.0 (Go (Turns (Destroying cached)))).cached in omega (arith, few, suits.1)))
+  turn_again (Publishing addr) suits knows = (idle_again m m' alike knows.0, hand_again addr desk.hand refl suits knows.0)
+  turn_again point suits knows = let idle = idle_again m m' alike in first_of (search (rules, flies_again), grind (arith, flies_again))
+
+  ask_again : (point : AskPoint) → SuitsAsk desk arena point → KnowsAsk m point → KnowsAsk m' point
+  ask_again (Skipping wish span b skip) suits knows = (gets_again wish wish.count suits knows.0, alone_again span b knows.1, knows.2, knows.3)
+  ask_again point suits knows = let idle = idle_again m m' alike in search (rules, gets_again, alone_again, flies_again, pair_again, offered_again)
+
+  pub knows_again : (point : Point) → Suits desk request arena point → Knows m point → Knows m' point
+  knows_again (Turns point) suits knows = turn_again point suits knows
+  knows_again (Asks point heard) suits knows = (ask_again point suits knows.0, knows.1)
+  knows_again (Tells span b) suits knows = (idle_again m m' alike knows.0, alike.dying ∙ knows.1)
+
+-- ---- a region that is held is published
+
+module _ (records : List Record) (c : ℕ) (region : Held) (desk : DeskFacts) (is : IsArenas records) (few : c < 32) (owns : Owns records c [] desk) (found : held_at region.addr desk ≡ Some region) where
+  abbrev op : Op
+  op = Publish region.addr
+
+  abbrev s : Space
+  s = (record_at records region.arena).space
+
+  abbrev rest : List Record
+  rest = after_turn records region.arena c op None
+
+  abbrev less : DeskFacts
+  less = not_holding region.addr desk
+
+  some : 0 < count_in records c region.arena region.addr region.class
+  some = had_counts (count_in records c) desk region owns.hands (inl (region.addr, found)) owns.shaped
+
+  low : region.arena < 32
+  low = counts_low records c region.arena region.addr region.class is some
+
+  not_nothing : ¬ Nothing (mine c s)
+  not_nothing nothing =
+      let none : count_in records c region.arena region.addr region.class ≡ 0 = ap (count_by (is_region region.addr region.class)) nothing.regions in
+      omega (arith, some, none)
+
+  can : CanTurn records c region.arena op None
+  can =
+      let live = live_where c s (sound_at records region.arena is low) not_nothing in
+      let held : holds_at c s.regions region.addr ≡ true = region_found c s.regions region.addr ∙ any_region region.addr region.class (mine c s).regions some in record {
+        stands = subst (λ b. IsTrue (b && (is_live s.life && holds_at c s.regions region.addr))) (sym (lt-ltb c 32 few)) (subst (λ b. IsTrue (b && holds_at c s.regions region.addr)) (sym live) held);
+        room = λ e. absurd (cc);
+        kept = tt;
+      }
+
+  owns_less : Owns rest c [] less
+  owns_less =
+      let parts : Parts desk less (region ∷ []) = record {
+        less = λ f. omega (arith, drop_over f region.addr region desk found, sum_by-cons f region []);
+        shaped = drop_shaped region.addr desk owns.shaped;
+        arena = refl;
+      } in
+      let bound = still_bound records c region.arena desk empty_request None is low owns op less (inl (refl, λ home. was_bound records c region.arena desk empty_request None is low owns home)) in record {
+        hands = hands_part (count_in records c) (count_in rest c) region.arena (region ∷ []) desk less (single_in records c is) owns.hands parts (All-cons (λ (q : Held). q.arena ≡ region.arena) region [] refl (All-nil (λ (q : Held). q.arena ≡ region.arena)))
+            (λ a k. count_here records c region.arena desk empty_request None is low owns op a k ∙ published_counts c region.addr a k s.regions ∙ ap (λ v. cond v 0 (count_at c a k s.regions)) (sym (or-false (region.addr == a))))
+            (λ i a k differ. count_else records c region.arena desk empty_request None is low owns op i a k differ);
+        shaped = parts.shaped;
+        low = bound.0;
+        bound = bound.1;
+      }
+    where
+      empty_request : Request
+      empty_request = Flush
+
+  -- what the client owns in any arena but for its regions
+  alike : (i : ℕ) → Alike (mine_in records c i) (mine_in rest c i)
+  alike i = by_arena records region.arena (record_after (record_at records region.arena) c op None) (λ n (r : Record). Alike (mine_in records c n) (mine c r.space)) is low
+      (record { flights = refl; offers = refl; bound = refl; dying = refl }) (λ n other. record { flights = refl; offers = refl; bound = refl; dying = refl }) i
+
+  more_room : (i : ℕ) → room_in records i c ≤ room_in rest i c
+  more_room i = by_arena records region.arena new (λ n (r : Record). room_in records n c ≤ room_of c r.rooms) is low here (λ n other. omega arith) i
+    where
+      new : Record
+      new = record_after (record_at records region.arena) c op None
+
+      here : room_in records region.arena c ≤ room_of c new.rooms
+      here =
+          let set : room_of c new.rooms ≡ max (max (room_in records region.arena c) 16) (16 * emptied_by_op c op s) =
+          get_or-set_same (record_at records region.arena).rooms c (room_after s (room_in records region.arena c) c op) 0 (omega (arith, few, is.clients region.arena low)) in
+          omega (arith, set)
+
+  sits_less : (request : Request) (arena : ℕ) (point : Point) → Sits records c desk request arena point → Sits rest c less request arena point
+  sits_less request arena point sits =
+      let suits = suits_held less.held desk request arena point sits.suits in
+      let others : (i : ℕ) → i ≢ arena → Idle (mine_in rest c i) = λ i ne. idle_again (mine_in records c i) (mine_in rest c i) (alike i) (sits.waits.elsewhere i ne) in
+      let same : flying (mine_in rest c arena) ≡ flying (mine_in records c arena) = ap length (alike arena).flights in record {
+        has = owns_has rest c less owns_less;
+        waits = record {
+          there = sits.waits.there;
+          knows = knows_again rest c arena less request (mine_in records c arena) owns_less (alike arena) others point suits sits.waits.knows;
+          elsewhere = others;
+          room = subst (λ n. needed_at n point ≤ room_in rest arena c) (sym same) (omega (arith, sits.waits.room, more_room arena));
+        };
+        suits = suits;
+      }
+
+  sits_at_less : (call : CallFacts) (next : Next) → SitsAt records c desk call next → SitsAt rest c less call next
+  sits_at_less call (Go point) sits = sits_less call.request call.stage.arena point sits
+  sits_at_less call next sits = sits
+
+  seated_less : (call : Option CallFacts) → IsSeated records c desk call → IsSeated rest c less call
+  seated_less None rests = record {
+    has = owns_has rest c less owns_less;
+    idle = λ i. idle_again (mine_in records c i) (mine_in rest c i) (alike i) (rests.idle i);
+    empty = rests.empty;
+  }
+  seated_less (Some call) sits = (sits.0, sits_at_less call call.stage.next sits.1)
+
+-- what a client has is so at any moment
+seat_has : (records : List Record) (c : ℕ) (desk : DeskFacts) (call : Option CallFacts) → IsSeated records c desk call → HasRegions records c desk
+seat_has records c desk call is = grind arith
+
+pub holders-publish : HoldersPublish
+holders-publish records c addr seat region is few sound held =
+    let owns = has_owns records c seat.desk (seat_has records c seat.desk seat.call sound) in
+    let at : region.addr ≡ addr = held_is addr seat.desk region owns.shaped held in
+    let found : held_at region.addr seat.desk ≡ Some region = ap (λ a. held_at a seat.desk) at ∙ held in
+    (at, low records c region seat.desk is few owns found, can records c region seat.desk is few owns found, seated_less records c region seat.desk is few owns found seat.call sound)
+
+-- ---- a call takes a region over in any arena
+
+pub aims-sit : AimsSit
+aims-sit records c addr arena arena' desk request low sits = grind arith
+
+-- ---- the laws of the clients of a heap, and that the clients of a new one rest
 
 -- Nothing of an arena is a client's but that it may be bound.
 pub record IsEmpty (m : Mine) : Type 0 where

@@ -3,9 +3,8 @@ use Rattle.heap_core.proofs.Words.{rules, ◌≡◌, ◌≢◌, ◌⊎◌, inl, 
 use Rattle.heap_core.proofs.Carrying.{carries}
 use Rattle.heap_core.proofs.Clients.{asks-lead_on, at_or_else, elsewhere_is, others-stay, others_own, sound_at, there_is, turns-lead_on}
 use Rattle.heap_core.proofs.Having.{cache_arena, share_stays}
-use Rattle.heap_core.proofs.Regions.{count_at}
+use Rattle.heap_core.proofs.Regions.{BindsNobody, IsSteady, added_in, bind_keeps, count_at, op_bound, op_regions, set_bound}
 use Rattle.heap_core.proofs.Settling.{Owns, comes_on, count_in, ends_rest, has_owns, single_in}
-use Rattle.heap_core.proofs.Steady.{BindsNobody, IsSteady, added_in, bind_keeps, op_bound, op_regions, set_bound}
 use Rattle.heap_core.proofs.Suiting.{Suited, came, told_suits, turned_suits}
 use Rattle.heap_core.proofs.Turned.{arenas_turned}
 use Rattle.heap_core.proofs.Turning.{replayed_more}

@@ -1,5 +1,5 @@
 -- What a client's open call wants, and where a step for it leads.
-use Rattle.heap_core.proofs.Words.{◌≡◌, ◌⊎◌, ◌≤◌, ℕ, ◌+◌, true, false, List, Option, None, Some, IfSome, IsSomeAnd, refl, sym, ap, subst, ◌∙◌, arith, opens, Item, Told, Starved, Answered, NoMemory, Point, Next, Go, More, Ends, Ask, Op, AskFacts, DeskFacts, Need, NeedsTurn, NeedsAsk, Turn, CallFacts, moment_of, desk_fed, Goes, NeedIs, NeedsWant, heard_next, Moment, after, moved, starved_after, step_next, Want, WantTurn, WantAsk, is_marked, step, want, room_in, FedTo, never_starves, HeapFacts, asks_at, asks_next, owing, Record, Seat, answer_of, heard_by, seat_at, seat_of, IsSeated, SeatSound, Sits, SitsAt, IsMarked, Needs, StarvesAt, StarvesNext}
+use Rattle.heap_core.proofs.Words.{◌≡◌, ◌⊎◌, ◌≤◌, ℕ, ◌+◌, true, false, List, Option, None, Some, IfSome, IsSomeAnd, refl, sym, ap, subst, ◌∙◌, arith, opens, Item, Told, Starved, Answered, NoMemory, Point, Next, Go, More, Ends, Ask, Op, AskFacts, DeskFacts, Need, NeedsTurn, NeedsAsk, Turn, CallFacts, moment_of, desk_fed, Goes, NeedIs, NeedsWant, heard_next, Moment, after, moved, starved_after, step_next, Want, WantTurn, WantAsk, is_marked, step, want, room_in, FedTo, never_starves, HeapFacts, asks_at, asks_next, owing, Record, Seat, answer_of, heard_by, seat_at, seat_of, IsSeated, SeatSound, Sits, SitsAt, IsMarked, Needs, StarvesAt, StarvesNext, nat_tests, Request, Replied, Filling, Skipping, Turns, Asks, Over, Nothing, begin, begin_desk, begin_stage, closed, stage, Result, Ok, Err, OnOk, OnErr, Held, HasRoomToHold, started, ended_by, open_call}
 
 -- ---- the point of an open call
 
@@ -157,3 +157,69 @@ turn_client records c seat turn sound needs =
 pub turn_told : (h now : HeapFacts) (c : ℕ) (turn : Turn) (seat : Seat) (call : CallFacts) (need : Need) → h ≡ now → SeatSound h.records c (seat_at h.seats c) → seat ≡ seat_at h.seats c →
     seat.call ≡ Some call → NeedIs call.client call.stage.arena call.stage.next need → need ≡ NeedsTurn turn → Needs (seat_at now.seats turn.client).call (NeedsTurn turn)
 turn_told h now c turn seat call need view sound at is told same = grind (arith, turn_client)
+
+-- ---- how many asks may come where a call goes next: no more than its client has room in its arena, and one
+
+-- ---- at a point
+
+-- at no point more asks may come than there is room, and one
+pub few_asks : (room : ℕ) (point : Point) → asks_at room point ≤ room + 1
+few_asks room point = grind (arith, nat_tests)
+
+-- ---- where a call goes over to another arena, or begins
+
+-- a call goes over only to a turn that takes memory
+abbrev pub OverOpens : Next → Type 0
+OverOpens (Over index point) = (room : ℕ) → asks_at room point ≡ 0
+OverOpens next = Unit {0}
+
+next_opens : (next : Next) (item : Item) → OverOpens (step_next next item)
+next_opens (Go (Turns (Filling wish count))) (Replied Nothing) = tt
+next_opens (Go (Asks (Skipping wish span b skip) (Some asked))) (Replied Nothing) = tt
+next_opens next item = grind (arith, nat_tests)
+
+-- ---- what the call of a client may ask then
+
+-- nothing where it has ended, and what is enough for its room where it goes on
+owed_moved : (records : List Record) (c n : ℕ) (request : Request) (desk : DeskFacts) (arena : ℕ) (next : Next) → room_in records arena c + 1 ≤ n → OverOpens next →
+    owing records c (seat_of c (moved request desk arena next)).call ≤ n
+owed_moved records c n request desk arena next enough opens = grind (arith, few_asks)
+
+pub owed_after : (records : List Record) (c n : ℕ) (at : Moment) (item : Item) → room_in records at.stage.arena c + 1 ≤ n → owing records c (seat_of c (after at item)).call ≤ n
+owed_after records c n at item enough =
+    owed_moved records c n at.request (desk_fed at.desk at.stage.arena at.stage.next item) at.stage.arena (step_next at.stage.next item) enough (next_opens at.stage.next item)
+
+-- ---- where a call begins
+
+-- a turn comes first that takes memory
+begin_starts : (room : ℕ) (request : Request) (desk : DeskFacts) → asks_next room (begin_stage request desk).next ≡ 0
+begin_starts room request desk = grind (arith, nat_tests)
+
+owed_started : (records : List Record) (c n : ℕ) (request : Request) (desk : DeskFacts) (arena : ℕ) (next : Next) → asks_next (room_in records arena c) next ≡ 0 →
+    owing records c (seat_of c (closed request desk (stage arena next))).call ≤ n
+owed_started records c n request desk arena next none = grind arith
+
+pub owed_begun : (records : List Record) (c n : ℕ) (request : Request) (desk : DeskFacts) → owing records c (seat_of c (begin request desk)).call ≤ n
+owed_begun records c n request desk =
+    let at = begin_stage request desk in
+    owed_started records c n request (begin_desk request desk) at.arena at.next (begin_starts (room_in records at.arena c) request desk)
+
+-- ---- what is kept of a call that was fed
+
+-- a call that is kept has room for the region that it may get
+pub room_kept : (c room : ℕ) (hand : Option Held) (at : Moment) (next : Next) (kept : Option CallFacts) → kept ≡ open_call c at next → HasRoomToHold hand room at.stage.next →
+    IfSome kept (λ call. HasRoomToHold hand room call.stage.next)
+room_kept c room hand at next kept is has = grind arith
+
+-- a call that began in a free place is kept there while it is open
+pub started_open : (c : ℕ) (at : Moment) (next : Next) → started c at None next ≡ open_call c at next
+started_open c at next = grind arith
+
+-- What the call and its client's desk are after an item is what the client is then.
+pub fed_to : {A E : Type 0} (seat : Seat) (desk desk' : DeskFacts) (call call' : CallFacts) (item : Item) (named : Result A E) (place : Option CallFacts) (ended : Option Answered) →
+    record { desk = desk; call = Some call } ≡ seat → call'.client ≡ call.client → OnOk named (moment_of call' desk' ≡ after (moment_of call desk) item) →
+    OnErr named (moment_of call' desk' ≡ starved_after (moment_of call desk) item) → OnErr named (step_next call.stage.next item ≡ More) →
+    place ≡ open_call call'.client (moment_of call' desk') call'.stage.next → ended ≡ ended_by call'.stage.next →
+    IfSome seat.call (λ k. FedTo k seat.desk item ended (record { desk = desk'; call = place }))
+fed_to seat desk desk' call call' item (Ok named) place ended view client ok err more kept answer = grind arith
+fed_to seat desk desk' call call' item (Err error) place ended view client ok err more kept answer = grind arith

@@ -123,7 +123,7 @@ impl Client {
     }
 
     /// Begins a call. Gives its answer, where it has ended already. Where memory is wanting nothing changes.
-    #[tactic(auto, using(crate::proofs::Feeding::started_open))]
+    #[tactic(auto, using(crate::proofs::Wanting::started_open))]
     pub fn start(
         &mut self,
         alloc: Global,

@@ -1,5 +1,5 @@
 -- The limits that a line keeps to.
-use Rattle.trace_text.proofs.Words.{◌≡◌, ℕ, ℤ, pos, negsuc, ◌^◌, ◌<◌, Bool, true, false, ltb, leb, eqb, cond, List, [], ◌∷◌, Result, Ok, Err, refl, arith, IfOk, codes, bytes_eq, ltb-true, ltb-false, Rest, is_purgeable, is_decay_time, LineFault, Words, Range, Verb, Free, Publish, Take, Purge, Decay, Reset, Destroy, Create, Bind, Cache, Flush, CtlWrite, Line, ◌>>=◌, both, Gives, decimal_of, name_of, control_of, value_of, client_of, box_of, index_of, time_of, nothing_of, in_one, pointer_of, malloc_of, memalign_of, decay_time_of, switch_of, control_call_of, client_verb_of, arena_verb_of, unused_verb_of, verb_of, refusals_of, plan_of, client_line_of, setting_of, begins_client, said_of, IsVerbWithinLimits, IsWithinLimits}
+use Rattle.trace_text.proofs.Words.{◌≡◌, ℕ, ℤ, pos, negsuc, ◌^◌, ◌<◌, Bool, true, false, ltb, leb, eqb, cond, List, [], ◌∷◌, Result, Ok, Err, refl, arith, IfOk, codes, bytes_eq, ltb-true, ltb-false, Rest, is_purgeable, is_decay_time, LineFault, Words, Range, Verb, Free, Publish, Take, Purge, Decay, Reset, Destroy, Create, Bind, Cache, Flush, CtlWrite, Line, ◌>>=◌, both, Gives, decimal_of, name_of, control_of, value_of, client_of, box_of, index_of, time_of, nothing_of, in_one, pointer_of, malloc_of, memalign_of, decay_time_of, switch_of, control_call_of, client_verb_of, arena_verb_of, unused_verb_of, verb_of, refusals_of, plan_line_of, client_line_of, other_line_of, begins_client, said_of, IsVerbWithinLimits, IsWithinLimits}
 use Rattle.trace_text.specs.declared.lines.Line.TheVariants.{Call, Start, Step, End, At, Counts, Phase, Join}
 
 abbrev IsAny : {A : Type 0} → A → Type 0
@@ -159,8 +159,8 @@ verb_within (word ∷ arguments) =
     (kept_either IsVerbWithinLimits (bytes_eq word (codes "take")) _ _ (free_call Take (λ p. tt) (in_one pointer_of arguments))
     (unused_verb_within word arguments)))))
 
-plan_within : (words : List (List ℕ)) → IfOk (plan_of words) IsWithinLimits
-unfolding plan_of
+plan_within : (words : List (List ℕ)) → IfOk (plan_line_of words) IsWithinLimits
+unfolding plan_line_of
 plan_within [] = tt
 plan_within (box_no ∷ []) = tt
 plan_within (box_no ∷ kind ∷ []) = tt
@@ -201,8 +201,8 @@ counts_within : (words : List (List ℕ)) → IfOk (in_one index_of words >>= λ
 counts_within words =
     kept_on (IsBelow (2 ^ 32)) IsWithinLimits (in_one index_of words) _ (kept_one (IsBelow (2 ^ 32)) index_of words index_below) (λ i h. h)
 
-setting_within : (word : List ℕ) (words : List (List ℕ)) → IfOk (setting_of word words) IsWithinLimits
-unfolding setting_of
+setting_within : (word : List ℕ) (words : List (List ℕ)) → IfOk (other_line_of word words) IsWithinLimits
+unfolding other_line_of
 setting_within word words =
     kept_either IsWithinLimits (bytes_eq word (codes "at")) _ _ (free_line At (λ n. tt) (in_one decimal_of words))
     (kept_either IsWithinLimits (bytes_eq word (codes "refuse")) _ _ (plan_within words)

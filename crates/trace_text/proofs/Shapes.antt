@@ -1,5 +1,5 @@
 -- How the shapes of a line are told apart.
-use Rattle.trace_text.proofs.Words.{◌≡◌, ℕ, ◌<◌, Bool, true, false, eqb, ltb, cond, List, [], ◌∷◌, length, take, drop, Option, Some, None, Result, Ok, Err, refl, arith, IfErr, ok_or, cond_both, and-true, pointwise, LineFault, Words, Number, ◌>>=◌, both, first_cause, is_decimal, has_leading_zero, value_in, number_in, decimal_of, address_of, name_of, client_of, nothing_of, pointer_of, malloc_of, memalign_of, decay_time_of, control_call_of, client_verb_of, arena_verb_of, unused_verb_of, verb_of, plan_of, client_line_of, setting_of, said_of}
+use Rattle.trace_text.proofs.Words.{◌≡◌, ℕ, ◌<◌, Bool, true, false, eqb, ltb, cond, List, [], ◌∷◌, length, take, drop, Option, Some, None, Result, Ok, Err, refl, arith, IfErr, ok_or, cond_both, and-true, pointwise, LineFault, Words, Number, ◌>>=◌, both, first_cause, is_decimal, has_leading_zero, value_in, number_in, decimal_of, hexadecimal_of, name_of, client_of, nothing_of, pointer_of, malloc_of, memalign_of, decay_time_of, control_call_of, client_verb_of, arena_verb_of, unused_verb_of, verb_of, plan_line_of, client_line_of, other_line_of, said_of}
 use Rattle.trace_text.specs.declared.lines.Ptr.TheVariants.{Name, At}
 
 -- a word that doesn't begin with `@` is a name
@@ -11,7 +11,7 @@ named (b ∷ word) h =
     rw other refl
 
 -- what follows an `@` is an address
-pub addressed : (word : List ℕ) → pointwise eqb (take 1 word) (64 ∷ []) ≡ true → pointer_of word ≡ (address_of (drop 1 word) >>= λ a. Ok (At a))
+pub addressed : (word : List ℕ) → pointwise eqb (take 1 word) (64 ∷ []) ≡ true → pointer_of word ≡ (hexadecimal_of (drop 1 word) >>= λ a. Ok (At a))
 unfolding pointer_of
 addressed [] h = absurd (cc)
 addressed (b ∷ word) h =
@@ -69,8 +69,8 @@ client_line_long client a b c d e f words =
       cond_same,
     )
 
-setting_long : (word a b c d e f : List ℕ) (words : List (List ℕ)) → setting_of word (a ∷ b ∷ c ∷ d ∷ e ∷ f ∷ words) ≡ Err Words
-unfolding nothing_of plan_of setting_of
+setting_long : (word a b c d e f : List ℕ) (words : List (List ℕ)) → other_line_of word (a ∷ b ∷ c ∷ d ∷ e ∷ f ∷ words) ≡ Err Words
+unfolding nothing_of plan_line_of other_line_of
 setting_long word a b c d e f words = simp cond_same
 
 -- no shape has so many words

@@ -10,7 +10,7 @@ pub use Rattle.std.proofs.lemmas.Grind.{pow_more, common_steps}
 pub use Rattle.std.proofs.lemmas.Int.Digits.{digits_value-lt, digits_value_more}
 pub use Rattle.std.proofs.lemmas.List.{length-take-le, drop_more, length-map, map-append, take_all}
 pub use Rattle.std.proofs.lemmas.Str.Parse.{digits_value-take-le}
-unfoldable pub use Rattle.trace_text.specs.Numbers.{is_digit_in, value_in, decimal_of, is_decimal, has_leading_zero, number_in, address_of}
+unfoldable pub use Rattle.trace_text.specs.Numbers.{is_digit_in, value_in, decimal_of, is_decimal, has_leading_zero, number_in, hexadecimal_of}
 pub use Rattle.std.specs.Prelude.{IfOk, codes, IfErr}
 pub use Rattle.std.specs.Str.{bytes_eq}
 pub use Rattle.space_model.specs.declared.parts.Rest.{Rest}
@@ -25,7 +25,7 @@ unfoldable pub use Rattle.trace_text.specs.Causes.{◌>>=◌, both, Gives, first
 unfoldable pub use Rattle.trace_text.specs.Names.{name_of, control_of, value_of}
 unfoldable pub use Rattle.trace_text.specs.Ranges.{client_of, box_of, index_of, time_of}
 unfoldable pub use Rattle.trace_text.specs.Verbs.{nothing_of, in_one, pointer_of, malloc_of, memalign_of, decay_time_of, switch_of, control_call_of, client_verb_of, arena_verb_of, unused_verb_of, verb_of}
-unfoldable pub use Rattle.trace_text.specs.Grammar.{refusals_of, plan_of, client_line_of, setting_of, begins_client, said_of, IsVerbWithinLimits, IsWithinLimits, words_of, is_printable}
+unfoldable pub use Rattle.trace_text.specs.Grammar.{refusals_of, plan_line_of, client_line_of, other_line_of, begins_client, said_of, IsVerbWithinLimits, IsWithinLimits, words_of, is_printable}
 pub use Rattle.std.proofs.lemmas.List.Folds.{drop_split, list_all_more}
 pub use Rattle.std.proofs.lemmas.List.Splits.{length-slice_split, slice_split_at, slice_split_none}
 pub use Rattle.std.specs.Option.{ok_or}

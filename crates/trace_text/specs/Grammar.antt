@@ -53,10 +53,10 @@ unfoldable pub refusals_of : List ℕ → List ℕ → Result (Kind × ℕ) Line
 refusals_of kind nth = both (kind_of_word kind) (nth_of nth)
 
 -- a plan of a box: B, and the asks that it refuses
-unfoldable pub plan_of : List (List ℕ) → Result Line LineFault
-plan_of (box_no ∷ kind ∷ nth ∷ []) =
+unfoldable pub plan_line_of : List (List ℕ) → Result Line LineFault
+plan_line_of (box_no ∷ kind ∷ nth ∷ []) =
     both (box_of box_no) (refusals_of kind nth) >>= λ p. Ok (Refuse p.0 p.1.0 p.1.1)
-plan_of _ = Err Words
+plan_line_of _ = Err Words
 
 -- a client's line: its client and, behind it, a step, an end or a call
 unfoldable pub client_line_of : List ℕ → List (List ℕ) → Result Line LineFault
@@ -68,10 +68,10 @@ client_line_of client (word ∷ words) =
     else (both (client_of client) (verb_of (word ∷ words)) >>= λ p. Ok (Call p.0 p.1))))
 
 -- a line that is no client's, by its first word
-unfoldable pub setting_of : List ℕ → List (List ℕ) → Result Line LineFault
-setting_of word words =
+unfoldable pub other_line_of : List ℕ → List (List ℕ) → Result Line LineFault
+other_line_of word words =
     if bytes_eq word (codes "at") then (in_one decimal_of words >>= λ n. Ok (At n))
-    else (if bytes_eq word (codes "refuse") then plan_of words
+    else (if bytes_eq word (codes "refuse") then plan_line_of words
     else (if bytes_eq word (codes "counts") then (in_one index_of words >>= λ i. Ok (Counts i))
     else (if bytes_eq word (codes "phase") then (nothing_of words >>= λ _. Ok Phase)
     else (if bytes_eq word (codes "join") then (nothing_of words >>= λ _. Ok Join)
@@ -85,7 +85,7 @@ begins_client (b ∷ bytes) = b == 116
 -- the words of a line
 unfoldable pub said_of : List (List ℕ) → Result Line LineFault
 said_of [] = Err Words
-said_of (word ∷ words) = if begins_client word then client_line_of word words else setting_of word words
+said_of (word ∷ words) = if begins_client word then client_line_of word words else other_line_of word words
 
 -- a line, without its newline
 unfoldable pub line_of : List ℕ → Result Line LineFault

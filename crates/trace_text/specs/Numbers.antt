@@ -45,5 +45,5 @@ unfoldable pub decimal_of : List ℕ → Result ℕ LineFault
 decimal_of word = if is_decimal word then number_in 10 word else Err Words
 
 -- the address that a word of hexadecimal digits stands for
-unfoldable pub address_of : List ℕ → Result ℕ LineFault
-address_of word = if is_hexadecimal word then number_in 16 word else Err Words
+unfoldable pub hexadecimal_of : List ℕ → Result ℕ LineFault
+hexadecimal_of word = if is_hexadecimal word then number_in 16 word else Err Words

@@ -11,7 +11,7 @@ use Rattle.trace_text.specs.declared.lines.Ptr.TheVariants.{Name, At}
 use Rattle.trace_text.specs.declared.lines.Verb.{Verb}
 use Rattle.trace_text.specs.declared.lines.Verb.TheVariants.{Malloc, Memalign, Free, Publish, Take, Purge, Decay, Time, Reset, Destroy, Create, Bind, Cache, Flush, CtlPlain, CtlWrite}
 use Rattle.trace_text.specs.Causes.{◌>>=◌, both}
-use Rattle.trace_text.specs.Numbers.{decimal_of, address_of}
+use Rattle.trace_text.specs.Numbers.{decimal_of, hexadecimal_of}
 use Rattle.trace_text.specs.Names.{name_of, control_of, value_of}
 use Rattle.trace_text.specs.Ranges.{box_of, index_of, time_of}
 
@@ -28,7 +28,7 @@ in_one read _ = Err Words
 -- what a call names its region by: `@` and an address, or a name
 unfoldable pub pointer_of : List ℕ → Result Ptr LineFault
 pointer_of [] = Err Words
-pointer_of (b ∷ digits) = if b == 64 then (address_of digits >>= λ a. Ok (At a)) else (name_of (b ∷ digits) >>= λ n. Ok (Name n))
+pointer_of (b ∷ digits) = if b == 64 then (hexadecimal_of digits >>= λ a. Ok (At a)) else (name_of (b ∷ digits) >>= λ n. Ok (Name n))
 
 -- the arguments of a malloc: NAME N
 unfoldable pub malloc_of : List (List ℕ) → Result Verb LineFault

@@ -2,7 +2,7 @@
 
 ghost use Rattle.std.specs.Prelude.{◌≡◌, ◌+◌, ◌*◌, ◌^◌, ◌<◌, ◌≤◌, true, length, Result};
 ghost use Rattle.trace_text.specs.Causes.{first_cause, both, Gives};
-ghost use Rattle.trace_text.specs.Numbers.{has_leading_zero, is_digit_in, value_in, numeral_of, decimal_of, address_of};
+ghost use Rattle.trace_text.specs.Numbers.{has_leading_zero, is_digit_in, value_in, numeral_of, decimal_of, hexadecimal_of};
 ghost use Rattle.trace_text.specs.Names.{is_name_byte, is_name, name_of, is_control_byte, is_control, control_of, value_of};
 ghost use Rattle.std.specs.Char.{digit_value, is_ascii_digit};
 ghost use Rattle.std.specs.List.{list_all};
@@ -134,9 +134,9 @@ pub fn decimal(word: &[u8]) -> Result<u64, LineFault>
 }
 
 /// An address, of 1 to 16 lower-case hexadecimal digits.
-#[tactic(auto, unfolding(crate::specs::Numbers::address_of), using(crate::proofs::Digits::hexadecimals_fit))]
+#[tactic(auto, unfolding(crate::specs::Numbers::hexadecimal_of), using(crate::proofs::Digits::hexadecimals_fit))]
 pub fn address(word: &[u8]) -> Result<u64, LineFault>
-    ensures { result ≡ address_of word.now }
+    ensures { result ≡ hexadecimal_of word.now }
 {
     if word.len() > ADDRESS_DIGITS {
         Err(LineFault::Words)

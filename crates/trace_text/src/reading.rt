@@ -5,7 +5,7 @@ ghost use Rattle.std.specs.List.{list_all};
 ghost use Rattle.trace_text.specs.Causes.{Gives};
 ghost use Rattle.trace_text.specs.Numbers.{decimal_of};
 ghost use Rattle.trace_text.specs.Verbs.{in_one};
-ghost use Rattle.trace_text.specs.Grammar.{is_printable, words_of, is_blank, holding_kind_of, kind_of_word, refusals_of, plan_of, client_line_of, setting_of, begins_client, said_of, line_of, IsWithinLimits};
+ghost use Rattle.trace_text.specs.Grammar.{is_printable, words_of, is_blank, holding_kind_of, kind_of_word, refusals_of, plan_line_of, client_line_of, other_line_of, begins_client, said_of, line_of, IsWithinLimits};
 
 use crate::parts::{both_parts, decimal, is};
 use crate::ranges::{box_number, client, nth};
@@ -106,9 +106,9 @@ fn begins_client(word: &[u8]) -> bool
     matches!(word, [b't', ..])
 }
 
-#[tactic(auto, unfolding(crate::specs::Grammar::setting_of))]
+#[tactic(auto, unfolding(crate::specs::Grammar::other_line_of))]
 fn setting(word: &[u8], words: &[&[u8]]) -> Result<Line, LineFault>
-    ensures { Gives result (setting_of word.now (map (λ w. w.now) words.now)) }
+    ensures { Gives result (other_line_of word.now (map (λ w. w.now) words.now)) }
 {
     if is(word, "at") {
         Ok(Line::At(only_decimal(words)?))
@@ -136,9 +136,9 @@ fn only_decimal(words: &[&[u8]]) -> Result<u64, LineFault>
     }
 }
 
-#[tactic(auto, unfolding(crate::specs::Grammar::plan_of), using(crate::proofs::Causes::both_gives))]
+#[tactic(auto, unfolding(crate::specs::Grammar::plan_line_of), using(crate::proofs::Causes::both_gives))]
 fn plan(words: &[&[u8]]) -> Result<Line, LineFault>
-    ensures { Gives result (plan_of (map (λ w. w.now) words.now)) }
+    ensures { Gives result (plan_line_of (map (λ w. w.now) words.now)) }
 {
     let [box_no, kind, which] = words else {
         return Err(LineFault::Words);

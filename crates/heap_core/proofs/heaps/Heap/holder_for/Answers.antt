@@ -1,5 +1,5 @@
 use Rattle.heap_core.proofs.Words.{◌∙◌, ap, sym, holder_of}
-use Rattle.heap_core.proofs.TakenOver.{held_there}
+use Rattle.heap_core.proofs.Making.{held_there}
 use Rattle.heap_core.proofs.heaps.Heap.holder_for.Goals as goal
 
 pub unreachable-requires : goal.unreachable-requires

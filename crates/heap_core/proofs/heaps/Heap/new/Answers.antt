@@ -1,5 +1,5 @@
 use Rattle.heap_core.proofs.Words.{◌≡◌, ◌∙◌, ap, arith, length, replicate, first_seat}
-use Rattle.heap_core.proofs.Beginning.{opening_heap_is}
+use Rattle.heap_core.proofs.Changes.{opening_heap_is}
 use Rattle.heap_core.proofs.heaps.Heap.new.Goals as goal
 
 pub invariant_of-result : goal.invariant_of-result

@@ -1,6 +1,6 @@
 use Rattle.heap_core.proofs.Words.{◌≡◌, ◌∙◌, Some, ap, sym, subst, not_holding, held_at, HeapFacts, Seat, seat_at, MadeTurn, replied_by}
 use Rattle.heap_core.proofs.Changes.{seat_is}
-use Rattle.heap_core.proofs.TakenOver.{holder_led, publish_heap, publishing}
+use Rattle.heap_core.proofs.Making.{holder_led, publish_heap, publishing}
 use Rattle.heap_core.proofs.heaps.Heap.publish.Goals as goal
 use Rattle.heap_core.proofs.heaps.Heap.publish.Goals.{After-are_apart, After-lose}
 

@@ -1,6 +1,5 @@
 use Rattle.heap_core.proofs.Words.{◌≡◌, ◌∙◌, None, ap, sym, subst, HeapFacts, asked_for, seat_at}
-use Rattle.heap_core.proofs.Beginning.{start_heap}
-use Rattle.heap_core.proofs.Changes.{seat_is}
+use Rattle.heap_core.proofs.Changes.{seat_is, start_heap}
 use Rattle.heap_core.proofs.heaps.Heap.start.Goals as goal
 
 pub invariant_of-self : goal.invariant_of-self

@@ -1,4 +1,4 @@
-use Rattle.heap_core.proofs.TakenOver.{found}
+use Rattle.heap_core.proofs.Making.{found}
 use Rattle.heap_core.proofs.heaps.Heap.take_over.Goals as goal
 
 pub publish-requires-clause-held : goal.publish-requires-clause-held

@@ -1,5 +1,5 @@
 use Rattle.heap_core.proofs.Words.{◌∙◌, Option, ap, sym, CallFacts, lent, moment_of}
-use Rattle.heap_core.proofs.Feeding.{fed_to, room_kept}
+use Rattle.heap_core.proofs.Wanting.{fed_to, room_kept}
 use Rattle.heap_core.proofs.seats.Client.feed.Goals as goal
 
 pub invariant_of-self : goal.invariant_of-self
