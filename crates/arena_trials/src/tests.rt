@@ -1,6 +1,7 @@
 //! An arena beside a space that is moved by scans: scripts, random operations, and what is read of it.
 
 mod bins;
+mod decays;
 mod draws;
 mod entries;
 mod ops;
@@ -9,6 +10,7 @@ mod regions;
 mod rows;
 mod scripts;
 mod texts;
+mod threads;
 mod trials;
 
 use arena_core::Arena;

@@ -1,5 +1,5 @@
 -- The table of weights holds what the formula gives.
-use Rattle.std.proofs.Common.{◌≡◌, ℕ, ◌^◌, ◌<◌, ◌≤◌, Bool, true, refl, arith, eqb, slice_index_or}
+use Rattle.std.proofs.Common.{◌≡◌, ℕ, ◌≤◌, Bool, true, refl, arith, eqb, slice_index_or}
 use Rattle.std.proofs.lemmas.Bool.{agree_below, agree_below_at, eqb-true}
 use Rattle.space_model.specs.Pace.{weight}
 use Rattle.decay_curve.specs.declared.weights.TheConstants.{WEIGHTS}

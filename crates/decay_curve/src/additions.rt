@@ -76,19 +76,17 @@ impl Additions {
         requires { AreUpTo epoch self.now }
         ensures { result ≡ limit_at epoch self.now }
     {
-        let (early, late) = self.latest.as_slices();
-        (weight_of(epoch, early) + weight_of(epoch, late)) >> 24
+        weight_of(epoch, &self.latest) >> 24
     }
 }
 
-// What additions weigh together at an epoch.
-fn weight_of(epoch: u64, added: &[Added]) -> u64
-    requires pages { All (λ a. a.pages ≤ pages_end) added.now }
-    requires few { length added.now ≤ 200 }
-    ensures value { result ≡ sum_by (weighed epoch) added.now }
-    ensures bound { result ≤ length added.now * 2 ^ 53 }
+// What the latest additions weigh together at an epoch.
+fn weight_of(epoch: u64, latest: &HeapCircularBuffer<Added>) -> u64
+    requires pages { All (λ a. a.pages ≤ pages_end) latest.now.items }
+    requires few { length latest.now.items ≤ 200 }
+    ensures { result ≡ sum_by (weighed epoch) latest.now.items }
 {
-    added.iter().map(|one| weighed(epoch, one)).sum()
+    latest.iter().map(|one| weighed(epoch, one)).sum()
 }
 
 // What an addition weighs at an epoch: nothing from the age of 200 epochs on.

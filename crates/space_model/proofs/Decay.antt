@@ -41,33 +41,6 @@ weighed_le epoch a pages =
 pub weighed_old : (epoch : ℕ) (a : Added) → 200 ≤ epoch - a.epoch → weighed epoch a ≡ 0
 weighed_old epoch a old = grind (arith, nat_tests)
 
--- how many epochs count from a lowest one on
-abbrev counting : ℕ → ℕ → ℕ
-counting epoch low = epoch + 1 - max low (epoch - 199)
-
--- additions of different epochs weigh at most as much as all pages in each epoch that counts
-weights_le : (epoch low : ℕ) (added : List Added) → All (λ a. low ≤ a.epoch) added → All (λ a. a.pages ≤ pages_end) added →
-    All (λ a. a.epoch ≤ epoch) added → AllPairs (λ a b. a.epoch < b.epoch) added → sum_by (weighed epoch) added ≤ counting epoch low * 2 ^ 53
-weights_le epoch low [] above pages past rising = omega arith
-weights_le epoch low (a ∷ rest) above pages past rising =
-    let here : low ≤ a.epoch = All-head (λ a. low ≤ a.epoch) a rest above in
-    let now : a.epoch ≤ epoch = All-head (λ a. a.epoch ≤ epoch) a rest past in
-    let left : sum_by (weighed epoch) rest ≤ counting epoch (a.epoch + 1) * 2 ^ 53 =
-    weights_le epoch (a.epoch + 1) rest (λ k d lt. let later : a.epoch < _ = rising 0 (suc k) d (omega arith) (omega arith) in omega arith)
-    (All-tail (λ a. a.pages ≤ pages_end) a rest pages) (All-tail (λ a. a.epoch ≤ epoch) a rest past)
-    (λ i j d lt within. rising (suc i) (suc j) d (omega arith) (omega arith)) in
-    let most : weighed epoch a ≤ 2 ^ 53 = weighed_le epoch a (All-head (λ a. a.pages ≤ pages_end) a rest pages) in
-    elim (cases_lt (epoch - a.epoch) 200) [
-      | inl young ↦ omega (arith, sum_by-cons (weighed epoch) a rest, left, most, here, now)
-      | inr old ↦ omega (arith, sum_by-cons (weighed epoch) a rest, left, weighed_old epoch a old, here, now)
-    ]
-
--- so the limit fits
-pub limit_fits : (epoch : ℕ) (added : List Added) → All (λ a. a.pages ≤ pages_end) added → All (λ a. a.epoch ≤ epoch) added →
-    AllPairs (λ a b. a.epoch < b.epoch) added → limit_at epoch added < 2 ^ 64
-limit_fits epoch added pages past rising =
-    omega (arith, div-le_self (sum_by (weighed epoch) added) (2 ^ 24), weights_le epoch 0 added (λ k d lt. omega arith) pages past rising)
-
 -- the epochs that have passed since a start are no more than the nanoseconds
 pub epochs_fit : (epoch start now ms : ℕ) → epoch * ms * 5000 ≤ start → 1 ≤ ms → start < 2 ^ 64 → now < 2 ^ 64 →
     epoch + (now - start) / (ms * 5000) < 2 ^ 64

@@ -88,20 +88,6 @@ Good-step turns s entry good h =
           ∙ ap (λ (b : Bool). cond b 1 0) (sym (fold_push (λ (before : Bool) (turn : Entry × Reply). granted_by page before turn.0.op turn.1) false turns (entry, reply_to s entry)));
     }
 
--- the numbers of an extent that may be cut
-pub cut_bounds : (c : ℕ) (s : Space) (span : Span) (left : ℕ) (answer : Answer) (p : Part) → Sound s →
-    IsTrue (cut_stands s c (Split span left) answer) → find (is_flight_at c span) s.parts ≡ Some p →
-    (left ≤ p.span.pages) × (p.span.first + p.span.pages < 2 ^ 64)
-cut_bounds c s span left answer p sound h found =
-    let passes = find_passes (is_flight_at c span) s.parts p found in
-    let placed : IsPlaced p.span = find_has (λ q. IsPlaced q.span) (is_flight_at c span) s.parts p sound.placed found in
-    (grind (arith, nat_tests, passes), omega (arith, placed.2))
-
--- the first page of an extent is far from the end of the numbers
-pub found_first : (s : Space) (test : Part → Bool) (p : Part) → Sound s → find test s.parts ≡ Some p → p.span.first < 2 ^ 52
-found_first s test p sound found =
-    let placed : IsPlaced p.span = find_has (λ q. IsPlaced q.span) test s.parts p sound.placed found in omega (arith, placed.2)
-
 -- What a step's result leaves: the space after the entry, or the space as it was.
 pub record Outcome {E : Type 0} (s t : Space) (entry : Entry) (r : Result Reply E) : Type 0 where
   pub after : OnOk r (t ≡ space_after s entry)

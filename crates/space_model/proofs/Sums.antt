@@ -65,13 +65,6 @@ bytes_fit_space s sound = omega (arith, bytes_pages s.parts, pages_fit_space s s
 pub bytes_le : (s : Space) → Sound s → sum_by bytes_of s.parts ≤ 4096 * pages_end
 bytes_le s sound = omega (arith, bytes_fit_space s sound)
 
--- ---- some of them
-
--- the bytes of some of the extents fit
-pub bytes_where_fits : (test : State → Bool) (s : Space) → Sound s → bytes_where test s.parts ≤ 2 ^ 41
-bytes_where_fits test s sound =
-    omega (arith, bytes_le s sound, sum_by-le-sum_by (bytes_if test) bytes_of s.parts (λ p. grind arith))
-
 -- a region that has a home ends within the space
 region_end : (r : Region) (parts : List Part) → All (λ p. IsPlaced p.span) parts → homes r parts ≡ 1 → r.addr + size_at r.class ≤ 4096 * pages_end
 region_end r [] placed home = absurd (omega arith)
@@ -92,13 +85,4 @@ listed_fit_space rest s sound =
       arith,
       pages_fit_space s sound,
       sum_by-le-sum_by (λ (p : Part). cond (is_listed rest p.state) p.span.pages 0) (λ p. p.span.pages) s.parts (λ p. grind arith),
-    )
-
--- the regions of some classes have no more bytes
-pub region_bytes_where_fits : (test : ℕ → Bool) (s : Space) → Sound s → region_bytes_where test s.regions ≤ 2 ^ 41
-region_bytes_where_fits test s sound =
-    omega (
-      arith,
-      region_bytes_fits s sound,
-      sum_by-le-sum_by (λ (r : Region). cond (test r.class) (size_at r.class) 0) (λ r. size_at r.class) s.regions (λ r. grind arith),
     )

@@ -4,8 +4,6 @@ use Rattle.std.specs.List.{range_with_len, sum_by}
 use Rattle.size_classes.specs.Classes.{size_at}
 use Rattle.space_model.specs.Types.{Part, Region, ToDirty, ToMuzzy, ToRetained, State, Space}
 use Rattle.space_model.specs.declared.counts.Counts.{Counts}
-use Rattle.space_model.specs.declared.plain.sums.Use.{Use}
-use Rattle.space_model.specs.declared.plain.sums.Use.TheVariants.{Active, Listed, Flight}
 use Rattle.space_model.specs.Part.{is_active, is_in_flight, is_listed}
 use Rattle.space_model.specs.Region.{is_slab}
 
@@ -37,12 +35,6 @@ slabs_by_class regions parts = map (λ class. count_by (is_slab class regions) p
 -- whether an extent in the state is mapped: each is but a retained one
 abbrev pub is_mapped : State → Bool
 is_mapped state = not (is_listed ToRetained state)
-
--- the states that count as one use
-abbrev pub is_of : Use → State → Bool
-is_of Active = is_active
-is_of (Listed rest) = is_listed rest
-is_of Flight = is_in_flight
 
 -- the counts: offers count nowhere
 abbrev pub counts_of : Space → Counts

@@ -1,8 +1,8 @@
 //! What an arena is, what one entry of its journal does to it, and what is always true of it.
 //!
 //! Everything here is plain data and plain lists: nothing knows a hook object, a thread or a byte of input. The types
-//! are those that the other crates speak of, `specs/` has the definitions that their contracts cite, and `plain_step`
-//! is the slow program that computes them.
+//! are those that the other crates speak of, `specs/` has the definitions that their contracts cite, and the laws say
+//! what is always true of them.
 #![tactic(auto)]
 
 mod addresses;
@@ -13,7 +13,6 @@ mod counts;
 mod entries;
 mod laws;
 mod parts;
-mod plain;
 mod seq;
 mod spaces;
 mod spans;
@@ -30,7 +29,6 @@ pub use laws::{
     replies_tell,
 };
 pub use parts::{Offered, Offers, Part, Parts, Region, Regions, Rest, Span, State};
-pub use plain::{may_stand, plain_counts, plain_step};
 pub use seq::Seq;
 pub use spaces::{Added, Addeds, Life, MAX_SERIES, Pace, Space};
 

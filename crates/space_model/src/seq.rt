@@ -1,6 +1,7 @@
 //! A list that definitions and journals name.
 
 ghost use Rattle.std.specs.Prelude.{◌≡◌, ◌<◌, ◌^◌, ◌==◌, [], ◌∷◌, ◌++◌, length, OnOk, OnErr};
+ghost use Rattle.std.specs.List.{remove};
 
 use std::alloc::{AllocError as NoMemory, Global};
 use std::marker::Model;
@@ -8,7 +9,7 @@ use std::marker::Model;
 /// A list of values, which contracts see as the list of its elements and nothing else.
 #[derive(Drop)]
 pub struct Seq<T> {
-    pub(crate) items: Vec<T>,
+    items: Vec<T>,
 }
 
 impl<T> Model for Seq<T> {
@@ -58,11 +59,16 @@ impl<T> Seq<T> {
         self.items.len()
     }
 
-    /// A list that is there has fewer than 2^63 elements.
-    pub(crate) fn is_short(&self)
+    /// Tells that a list has fewer than 2^63 elements.
+    pub fn is_short(&self)
         ensures { length self.now < 2 ^ 63 }
     {
         let _length = self.items.len();
+    }
+
+    /// Where its memory comes from.
+    pub fn alloc(&self) -> Global {
+        *self.items.allocator()
     }
 
     /// Whether there is no element.
@@ -81,5 +87,15 @@ impl<T> Seq<T> {
     {
         self.items.push(item)?;
         Ok(())
+    }
+
+    /// Takes the element at a place out, and moves the later ones down.
+    pub fn remove(&mut self, place: usize)
+    where
+        T: Drop,
+        requires { place < length self.old }
+        ensures { self.new ≡ remove self.old place }
+    {
+        self.items.remove(place);
     }
 }

@@ -33,10 +33,10 @@ fn add_page(book: &mut PartBook, page: u64) -> bool {
 // Whether the extent of one page is found, and its neighbours.
 fn has_page(book: &PartBook, page: u64) -> bool {
     let part = dirty(page, 1);
-    let left = book.neighbour(part.span, false);
-    let right = book.neighbour(part.span, true);
+    let left = book.beside(part.span, false);
+    let right = book.beside(part.span, true);
     let ends = left.is_none() == (page == 512) && right.is_none() == (page == 511 + MANY);
-    ends && book.look(page) == Some(&part) && book.holding(page) == Some(&part)
+    ends && book.look(page) == Some(&part) && book.holding(page) == Some(part)
 }
 
 fn lists_all(book: &PartBook) -> bool {
@@ -45,16 +45,15 @@ fn lists_all(book: &PartBook) -> bool {
 }
 
 fn join(book: &mut PartBook, low: u64, high: u64) -> bool {
-    if let Some(part) = book.look(low)
-        && let Some(next) = book.look(high)
-        && part.span.first.checked_add(part.span.pages) == Some(next.span.first)
-        && part.state == next.state
-        && part.committed == next.committed
-    {
-        book.join(low, high);
-        return true;
+    if book.look(low).is_none() || book.look(high).is_none() {
+        return false;
     }
-    false
+    let (low, high) = (book.at(low), book.at(high));
+    let beside = low.span.first.checked_add(low.span.pages) == Some(high.span.first);
+    if beside {
+        book.join(&low, &high);
+    }
+    beside && low.state == high.state && low.committed == high.committed
 }
 
 // Whether the extent that begins at a page has so many pages.
@@ -68,10 +67,12 @@ fn flies_off(book: &mut PartBook, first: u64) -> bool {
     if book.look(first).is_none() {
         return false;
     }
-    book.set_state(first, state, false);
+    let part = book.at(first);
+    book.change(&part, state, false);
     let flown = book.next_flight(1).is_some();
     if book.look(first).is_some() {
-        book.drop_part(first);
+        let part = book.at(first);
+        book.take_off(&part);
     }
     flown && book.next_flight(1).is_none()
 }
@@ -96,18 +97,17 @@ fn a_large_book_is_not_scanned(rt: HostRuntime) -> Result<(), Fail> {
 
 // Cuts the first page off an extent, where it has another one and there is a place. That page comes first or last.
 fn cut(book: &mut PartBook, first: u64, last: bool) -> bool {
-    if let Some(part) = book.look(first)
-        && 1 < part.span.pages
-        && book.spare() > 0
-    {
-        if last {
-            book.shed(first, 1, State::Dirty);
-        } else {
-            book.cut(first, 1, State::Dirty, State::Dirty);
-        }
-        return true;
+    if book.look(first).is_none() || book.spare() == 0 {
+        return false;
     }
-    false
+    let part = book.at(first);
+    let long = 1 < part.span.pages;
+    if long && last {
+        book.split(&part, 1, true);
+    } else if long {
+        book.cut_off(&part, 1, State::Dirty);
+    }
+    long
 }
 
 // Two extents of one page, from an even page on, are joined and cut, and the first one leaves.

@@ -2,7 +2,8 @@
 
 ghost use Rattle.space_model.specs.Sound.{Sound};
 
-use space_model::{Part, Region, Space, Span, plain_counts};
+use plain_machine::plain_counts;
+use space_model::{Part, Region, Space, Span};
 use std::alloc::{AllocError as NoMemory, Global};
 
 /// Adds a text behind others, with a comma between.
@@ -68,19 +69,19 @@ pub(crate) fn counts(alloc: Global, space: &Space) -> Result<String, NoMemory>
     )?)
 }
 
-/// The numbers that aren't 0, by class.
-fn by_class(alloc: Global, numbers: &[u64]) -> Result<String, NoMemory> {
-    let mut list = String::new(alloc);
+/// Adds the numbers that aren't 0, by class.
+fn add_by_class(alloc: Global, list: &mut String, numbers: &[u64]) -> Result<(), NoMemory> {
+    let bare = list.len();
     for (class, number) in numbers.iter().enumerate() {
         if *number > 0 {
             let text = format!(in alloc; " {class}:{number}")?;
             list.push_str(text.as_str())?;
         }
     }
-    if list.is_empty() {
+    if list.len() == bare {
         list.push_str(" none")?;
     }
-    Ok(list)
+    Ok(())
 }
 
 /// The regions and slabs by class.
@@ -88,9 +89,11 @@ pub(crate) fn classes(alloc: Global, space: &Space) -> Result<String, NoMemory>
     requires { Sound space.now }
 {
     let n = plain_counts(space);
-    let regs = by_class(alloc, n.regs.as_slice())?;
-    let slabs = by_class(alloc, n.slabs.as_slice())?;
-    let lextents = by_class(alloc, n.lextents.as_slice())?;
-    let sizes = format!(in alloc; "small {} large {}", n.small, n.large)?;
-    Ok(format!(in alloc; "{sizes} regs{regs} slabs{slabs} lextents{lextents}")?)
+    let mut list = format!(in alloc; "small {} large {} regs", n.small, n.large)?;
+    add_by_class(alloc, &mut list, n.regs.as_slice())?;
+    list.push_str(" slabs")?;
+    add_by_class(alloc, &mut list, n.slabs.as_slice())?;
+    list.push_str(" lextents")?;
+    add_by_class(alloc, &mut list, n.lextents.as_slice())?;
+    Ok(list)
 }

@@ -1,13 +1,14 @@
 //! An arena beside its space, which is moved by scans: each operation is carried out in both, and has one reply.
 
-ghost use Rattle.std.specs.Prelude.{◌≡◌, ◌⊎◌, ◌<◌, false, IsTrue};
+ghost use Rattle.std.specs.Prelude.{◌≡◌, ◌⊎◌, ◌<◌, false, true, IsTrue};
 ghost use Rattle.space_model.specs.Opening.{absent_space, first_space};
 ghost use Rattle.space_model.specs.Step.{stands};
 ghost use Rattle.space_model.specs.Sound.{Sound};
 ghost use Rattle.arena_core.specs.Arenas.{opens, room_after, room_of};
 
 use arena_core::Arena;
-use space_model::{Entry, Op, Reply, Space, Span, may_stand, plain_counts, plain_step};
+use plain_machine::{may_stand, plain_counts, plain_step};
+use space_model::{Entry, Op, Reply, Space, Span};
 use std::alloc::Global;
 use std::marker::Model;
 use std::process::Abort;
@@ -47,6 +48,41 @@ fn carry_out(rt: &impl Abort, arena: &mut Arena, space: &mut Space, entry: &Entr
     let told = plain_step(space, entry).expect(rt, "memory for the space");
     assert_eq!(rt; reply, told);
     reply
+}
+
+/// A look that nothing can serve makes room for an operation of a client. The answer is whether it may look.
+fn make_room(rt: &impl Abort, arena: &mut Arena, space: &mut Space, client: u32) -> bool
+    requires same { arena.old.space ≡ space.old }
+    requires sound { Sound space.old }
+    ensures same { arena.new.space ≡ space.new }
+    ensures sound { Sound space.new }
+    ensures room { result ≡ true → 0 < room_of client arena.new.rooms }
+{
+    let look = Entry {
+        client,
+        op: Op::Look {
+            pages: 1 << 40,
+            align: 1,
+        },
+    };
+    if !may_stand(space, &look) {
+        return false;
+    }
+    carry_out(rt, arena, space, &look);
+    true
+}
+
+/// The reply to an entry, if it may stand. A client that may not even look may do nothing.
+fn attempt(rt: &impl Abort, arena: &mut Arena, space: &mut Space, entry: &Entry) -> Option<Reply>
+    requires same { arena.old.space ≡ space.old }
+    requires sound { Sound space.old }
+    ensures same { arena.new.space ≡ space.new }
+    ensures sound { Sound space.new }
+{
+    if !make_room(rt, arena, space, entry.client) || !may_stand(space, entry) {
+        return None;
+    }
+    Some(carry_out(rt, arena, space, entry))
 }
 
 impl Trial {
@@ -91,26 +127,9 @@ impl Trial {
         &self.space
     }
 
-    /// The reply to an operation of a client, if it may stand. A look that nothing can serve makes room for it: a client that may
-    /// not even look may do nothing.
+    /// The reply to an operation of a client, if it may stand.
     pub(crate) fn attempt(&mut self, rt: &impl Abort, client: u32, op: Op) -> Option<Reply> {
-        let look = Entry {
-            client,
-            op: Op::Look {
-                pages: 1 << 40,
-                align: 1,
-            },
-        };
-        if !may_stand(&self.space, &look) {
-            return None;
-        }
-        carry_out(rt, &mut self.arena, &mut self.space, &look);
-        let entry = Entry { client, op };
-        if !may_stand(&self.space, &entry) {
-            return None;
-        }
-        let reply = carry_out(rt, &mut self.arena, &mut self.space, &entry);
-        Some(reply)
+        attempt(rt, &mut self.arena, &mut self.space, &Entry { client, op })
     }
 
     /// The counts are those of a scan.

@@ -1,4 +1,3 @@
-use Rattle.std.proofs.Common.{arith}
 use Rattle.space_model.proofs.Decay.{weight_fits}
 use Rattle.decay_curve.proofs.Tabled.{weights_hold}
 use Rattle.decay_curve.proofs.weights.weight.Goals as goal

@@ -1,7 +1,0 @@
-use Rattle.std.proofs.Common.{◌≡◌, drop}
-use Rattle.space_model.proofs.Words.{rises_from}
-use Rattle.space_model.proofs.plain.stands.rises.Given as goal
-
--- the addresses rise where those that are left rise from the least one on
-abbrev pub invariant-loop-addr : goal.invariant-loop-addr
-invariant-loop-addr l = rises_from 0 l.addrs ≡ rises_from l.least (drop l.addr-index l.addrs)
