@@ -1,8 +1,7 @@
 -- A book of slabs beside a space, as regions land and are given back.
 use Rattle.arena_core.proofs.Words.{◌≡◌, ℕ, ◌/◌, ◌<◌, ◌≤◌, Bool, true, false, not, IsTrue, List, [], ◌∷◌, length, get_or, All, Contains, filter, map, inl, inr, refl, sym, ◌∙◌, ap, subst, arith, ◌&&◌, eqb, lt-ltb, find, Some, cond, count_by, list_any, cases_Bool, cases_lt, eq-eqb, eqb-true, false_from_ne_true, le-ltb, nil_from_length, All-cons, All-contains, All-filter, All-map, All-nil, All-head, sum_by-filter_both, ext_get_or, length-map, length-map-range_with_len, length-filter, sum_by-cons, contains_cases, filter_from, filter_has, Part, Region, Space, has_page, begins_at, taken_out, turned_in_order, fills, houses, is_slab, residents, starts_at, slabs_by_class, places, slabs_of, Sound, after_back, holds_at, is_emptied, is_given_back, staying, eqb_itself, only_one, both_true, turned_sum, BinSlab, is_out, is_all_free, of_class, with_free, any_from, any_has, any_map, filter_all_of, filter_both, filter_map_is, filter_none_of, filter_same, filter_swap, head, map_both, map_from, map_same, booked_slab, IsBooked, NothingIsBooked, slabs_left, is_last, slabs_returned, at_tally, tally, map-id}
 use Rattle.arena_core.proofs.Booked.{from_slabs, same_slab, not_so, among_kept, both_ways, freed, idle_no_slab, serves_none, stay_still, SlabAt, slab_at, starts_served, still_slab, unused_is}
-use Rattle.arena_core.proofs.Emptying.{Empties, Gives, any_counts, begins_alone, count_all, counted_any, given_starts, empties, gives, is_left, ones}
-use Rattle.arena_core.proofs.Finds.{find_alone}
+use Rattle.arena_core.proofs.Emptying.{Empties, Gives, any_counts, begins_alone, count_all, counted_any, find_alone, given_starts, empties, gives, is_left, ones}
 use Rattle.arena_core.proofs.InOrder.{order_stays}
 use Rattle.arena_core.proofs.Still.{Still, kept_exchanged}
 

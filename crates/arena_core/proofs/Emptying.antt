@@ -2,7 +2,6 @@
 use Rattle.arena_core.proofs.Words.{filter_has, ◌≡◌, ℕ, ◌/◌, ◌<◌, ◌≤◌, Bool, true, false, not, cond, IsTrue, List, [], ◌∷◌, append-nil, length, get_or, find, filter, Some, refl, sym, ◌∙◌, ap, subst, arith, All, ◌&&◌, eqb, inl, inr, count_by, list_any, sum_by, cases_Bool, eqb-true, nat_tests, All-cons, All-filter, All-head, All-nil, All-tail, filter_passes, recursion_from_All, sum_by-filter_both, sum_by-cons, size_at, size_bounds, filter_none, Part, Region, Space, IsPlaced, has_page, begins_at, exchanged, holders, is_active, taken_out, covers, homes, houses, is_held_by, residents, starts_at, after_back, holds_at, is_emptied, is_given_back, staying, Sound, filter-begins_at, find_has, find_passes, serves, some_pages, serves-le-share, sum_nothing, only_one, filter_same, All-contains, found}
 use Rattle.list_facts.proofs.Members.{all_from}
 pub use Rattle.space_model.proofs.Lists.{any_counts, counted_any, none_counted, ones}
-use Rattle.arena_core.proofs.Finds.{fewer_pass}
 use Rattle.arena_core.proofs.Homes.{home_shares}
 use Rattle.arena_core.proofs.Swaps.{keeps_all}
 
@@ -29,6 +28,18 @@ some_found t (x ∷ xs) some = elim (cases_Bool (t x)) [
   | inl h ↦ (x, rw h refl)
   | inr h ↦ let rest = some_found t xs (grind (arith, sum_by-cons (λ y. ones (t y)) x xs, h, some)) in let e : find t (x ∷ xs) ≡ find t xs = rw h refl in (rest.0, e ∙ rest.1)
 ]
+
+-- what a filter keeps alone is what a search finds
+pub find_alone : {X : Type 0} (test : X → Bool) (xs : List X) (x : X) → filter test xs ≡ x ∷ [] → find test xs ≡ Some x
+find_alone test [] x e = absurd (cc)
+find_alone test (y ∷ ys) x e = grind (arith, find_alone test ys x)
+
+-- where what passes one test passes another, no more pass the first
+fewer_pass : {X : Type 0} (t u : X → Bool) (xs : List X) → All (λ x. t x ≡ true → u x ≡ true) xs → count_by t xs ≤ count_by u xs
+fewer_pass t u [] has = omega arith
+fewer_pass {X} t u (x ∷ xs) has =
+    let P : X → Type 0 = λ y. t y ≡ true → u y ≡ true in
+    grind (arith, fewer_pass t u xs (All-tail P x xs has), All-head P x xs has, sum_by-cons (λ y. cond (t y) 1 0) x xs, sum_by-cons (λ y. cond (u y) 1 0) x xs)
 
 -- what is true of those that pass and of the others is true of all
 pub All-split : {X : Type 0} (P : X → Type 0) (t : X → Bool) (xs : List X) → All P (filter t xs) → All P (filter (λ x. not (t x)) xs) → All P xs

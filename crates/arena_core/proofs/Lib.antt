@@ -1,6 +1,5 @@
 pub mod Words
 pub mod Emptying
-pub mod Finds
 pub mod Handing
 pub mod Homes
 pub mod Landed
@@ -16,3 +15,4 @@ pub mod InOrder
 pub mod BookLands
 pub mod Rounds
 pub mod Totals
+pub mod Granted

@@ -1,7 +1,7 @@
 -- A large region that takes another class: its extent is the one that begins at its address, and the slabs stay.
 use Rattle.arena_core.proofs.Words.{◌≡◌, ℕ, ◌*◌, ◌/◌, ◌<◌, ◌≤◌, Bool, true, false, not, IsTrue, List, [], ◌∷◌, get_or, find, filter, Option, None, Some, refl, sym, ◌∙◌, ap, subst, arith, ◌&&◌, nat_le, ◌+◌, All, Contains, take, drop, eqb, nat_lt, list_any, position_or_len, sum_by, IsSome, option_map, eqb-true, nat_tests, sum_by-filter_both, sum_by-cons, sum_by-insert, pages_at, large_size, size_bounds, Ask, Split, Merge, Answer, Done, Refuses, Span, Part, Region, Space, IsPlaced, same_span, end_of, begins_at, is_active, exchanged, is_flight_at, taken_out, houses, inserted, is_held_by, starts_at, address_of, is_slab, lies_in, has_large, is_large_at, large_home, reclassed, trim_answered, trim_done_stands, trimmed_at, after_join, after_trim_done, is_large_class, join_stands, widened_at, holds_at, found_passes, Sound, nothing_sum, only_one, both_true, two_left, home_found, housed, All-cons, All-contains_itself, All-nil, Contains-append_right, without_client, one_left, filter_nothing, find_has, find_passes, eqb_itself, lies_between, BinSlab, filter_same, head, booked_slab, IsBooked, begins_either, high_piece, joined, low_piece, any_has, found, Home, Housed}
 use Rattle.arena_core.proofs.Emptying.{begins_alone, ones}
-use Rattle.arena_core.proofs.Finds.{found_there}
+use Rattle.part_book.proofs.Searches.{found_there}
 use Rattle.arena_core.proofs.Booked.{class_stays, idle_no_slab, no_slab, same_slab}
 use Rattle.arena_core.proofs.Books.{same_any, still_booked}
 use Rattle.arena_core.proofs.Homes.{in_flight}

@@ -2,7 +2,7 @@
 use Rattle.arena_core.proofs.Words.{false_from_ne_true, ◌≡◌, ℕ, ◌+◌, ◌<◌, ◌≤◌, Bool, true, false, cond, not, List, [], ◌∷◌, ◌++◌, append_assoc, append-nil, length, get_or, filter, refl, sym, ◌∙◌, ap, subst, arith, All, ◌*◌, IsTrue, ◌&&◌, eqb, nat_le, drop, add-one, drop-cons, count_by, list_all, list_any, not-true, nat_tests, All-append, All-cons, All-filter, All-head, All-nil, All-tail, filter-append, filter_passes, All-weaker, length-filter_both, sum_by-filter_both, sum_by-cons, Part, IsPlaced, end_of, begins_at, exchanged, turned, turned_in_order, is_active, taken_out, Span, filter-begins_at, filter-without, share, some_pages, serves, filter_swap, filter_both, IsApart, IsThere, drop_all, Region, Space, houses, is_held_by, residents, after_back, holds_at, is_emptied, is_given_back, is_live, rises_from, staying, taken_in_order, Sound, lawful_sound, back_does, both_true, filter_same, All-map, map, filter_map_is, turned_first, live_is, any_from, filter_from, eqb-true, All-contains}
 use Rattle.arena_core.proofs.Emptying.{All-split, none_kept, Empties, any_counts, counted_any, empties, none_counted, gives, is_left, ones}
 use Rattle.arena_core.proofs.InOrder.{lowest_first}
-use Rattle.arena_core.proofs.Swaps.{changed, keeps_all, others_apart, there_placed}
+use Rattle.arena_core.proofs.Swaps.{apart_changed, keeps_all, others_apart, there_placed}
 
 -- ---- a change that leaves each extent where it begins
 
@@ -100,9 +100,8 @@ walk_goes test turn start parts one page p spans stays there first is walk = by 
     by : (b : Bool) → test p ≡ b → one ≡ cond b (exchanged t parts (turn p ∷ [])) parts → Walk test turn start one (end_of p.span)
     by true passes is =
         let first = turns_first turn parts p test (λ q. ap (λ (s : Span). s.first) (spans q)) passes stays alone higher one is in
-        let swap = changed parts p (turn p) walk.apart there (spans p) in
         record {
-          apart = subst IsApart (sym is) swap.apart;
+          apart = subst IsApart (sym is) (apart_changed parts p (turn p) walk.apart there (spans p));
           all = first.all ∙ walk.all;
           low = subst (All P) (sym is) (All-append P others (turn p ∷ []) rest (All-cons P (turn p) [] (fails (turn p) stays) (All-nil P)));
         }

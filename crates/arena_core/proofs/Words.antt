@@ -35,7 +35,7 @@ pub use Rattle.bin_book.proofs.Places.{same_place}
 pub use Rattle.bin_book.specs.Bins.{of_class}
 pub use Rattle.list_facts.proofs.Members.{count_same, filter_swap, found, filter_none_of, find_is}
 pub use Rattle.ordered_set.proofs.Sorted.{filter_none, every_filter, every_map}
-pub use Rattle.part_book.specs.Books.{Book, IsFirstFrom, ends_at, is_beside, AreBeside, pages_of}
+pub use Rattle.part_book.specs.Books.{AreBeside, IsThere, active_pages, all_pages, pages_of}
 pub use Rattle.region_book.proofs.ByClass.{at_tally, tally, both_bytes}
 pub use Rattle.region_book.specs.RegionLists.{CanBeSlab, CanCome}
 pub use Rattle.region_book.specs.Slabs.{slabs_landed, is_last, slabs_returned}
@@ -64,9 +64,8 @@ pub use Rattle.space_model.specs.Step.{taken_in_order}
 pub use Rattle.arena_core.specs.Arenas.{all_rooms, emptied_by_return, Standing, emptied_by_op, given_by, is_return, opens, IsBody, IsReady, Turns, entry_of, room_after, room_of, rooms_after, standing_of}
 pub use Rattle.arena_core.specs.Booked.{LandsTakeTheFirst, booked_slab, AreBooked, BooksStayWhereHoldersChange, BooksStayWhileExtentsDo, FillsTakeTheLowest, ReturnsAreFree, filled, OrderGrows, OrderStays}
 pub use Rattle.part_book.specs.Rows.{IsApart}
-pub use Rattle.arena_core.specs.Extents.{IsThere, IsExtents, found_if, active_pages, all_pages, goes_to}
+pub use Rattle.arena_core.specs.Ends.{goes_to}
 pub use Rattle.arena_core.specs.Indexes.{Does, HasPlaces, Takes, space_of}
 pub use Rattle.arena_core.specs.Slabs.{IsBooked, CanFollow, slabs_begun, slabs_filled, slabs_followed, slabs_left, slabs_taken, NothingIsBooked}
-pub use Rattle.arena_core.specs.declared.extents.Extents.TheInside.{Inside}
 pub use Rattle.arena_core.specs.declared.indexes.Indexes.{Indexes}
 pub use Rattle.arena_core.specs.declared.steps.Body.{Body}

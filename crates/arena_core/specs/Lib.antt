@@ -1,6 +1,6 @@
 pub mod Arenas
 pub mod Booked
-pub mod Extents
+pub mod Ends
 pub mod Indexes
 pub mod OfferLists
 pub mod Rooms

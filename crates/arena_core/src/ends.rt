@@ -5,13 +5,14 @@ ghost use Rattle.space_model.specs.Part.{begins_at, exchanged, moved_to, turned}
 ghost use Rattle.space_model.specs.Ending.{after_destroy, after_destroy_take, after_reset, emptied, ended, flight_count, held_count, reset_stands};
 ghost use Rattle.space_model.specs.Sound.{Sound};
 ghost use Rattle.part_book.specs.Rows.{IsApart};
-ghost use Rattle.arena_core.specs.Extents.{IsThere, goes_to};
+ghost use Rattle.part_book.specs.Books.{IsThere};
+ghost use Rattle.arena_core.specs.Ends.{goes_to};
 ghost use Rattle.arena_core.specs.Indexes.{Does, HasPlaces, space_of};
 ghost use Rattle.arena_core.specs.Slabs.{IsBooked, slabs_left};
 
-use crate::extents::Extents;
 use crate::indexes::Indexes;
 use crate::purges;
+use part_book::PartBook;
 use space_model::{Life, Part, Reply, Rest, State};
 
 /// What others have in the arena, or the client in its cache: how many regions, and how many extents in flight or offered.
@@ -38,7 +39,7 @@ fn goes_to(rest: Rest, state: State) -> bool
 }
 
 /// Moves an extent to a list, if it goes there.
-fn move_one(extents: &mut Extents, part: &Part, rest: Rest)
+fn move_one(extents: &mut PartBook, part: &Part, rest: Rest)
     requires { IsThere extents.old.parts part.now }
     ensures parts { extents.new.parts ≡ cond (goes_to rest part.now.state)
         (exchanged (begins_at part.now.span.first) extents.old.parts (moved_to rest part.now ∷ [])) extents.old.parts }
@@ -51,7 +52,7 @@ fn move_one(extents: &mut Extents, part: &Part, rest: Rest)
 
 /// Moves each extent that goes there to a list, in order of address.
 #[tactic(auto, using(crate::proofs::Swaps::there_placed))]
-fn move_all(extents: &mut Extents, rest: Rest)
+fn move_all(extents: &mut PartBook, rest: Rest)
     requires { IsApart extents.old.parts }
     ensures parts { extents.new.parts ≡ turned (λ p. goes_to rest p.state) (moved_to rest) extents.old.parts }
     ensures spare { extents.new.spare ≡ extents.old.spare }

@@ -1,10 +1,11 @@
 //! What giving regions back does to the indexes, and the merges that follow it.
 
-ghost use Rattle.std.specs.Prelude.{◌≡◌, ℕ, ◌+◌, ◌≤◌, true, cond, IsTrue, [], ◌∷◌, filter, find, length, take};
+ghost use Rattle.std.specs.Prelude.{◌≡◌, ℕ, ◌+◌, ◌≤◌, None, Some, true, cond, IsTrue, [], ◌∷◌, filter, find, length, take};
 ghost use Rattle.std.specs.List.{list_all};
 ghost use Rattle.space_model.specs.Part.{is_flight_at};
-ghost use Rattle.space_model.specs.Step.{after_back, after_merge, holds_at, is_emptied, is_live, is_purged, merge_stands, put_at, rises_from, staying};
+ghost use Rattle.space_model.specs.Step.{after_back, after_merge, holds_at, is_emptied, is_live, is_purged, merge_stands, put_at, put_beside, rises_from, staying};
 ghost use Rattle.space_model.specs.Sound.{Sound};
+ghost use Rattle.part_book.specs.Books.{IsThere};
 ghost use Rattle.arena_core.specs.Indexes.{Does, HasPlaces, space_of};
 ghost use Rattle.arena_core.specs.Slabs.{IsBooked};
 
@@ -20,6 +21,30 @@ fn is_purged(indexes: &Indexes, part: &Part) -> bool
     State::Dirty.is_listed(part.state.rest()) && indexes.dirty.ms() == 0
 }
 
+/// The neighbour of an extent in flight is in flight too from now on.
+fn take_out(indexes: &mut Indexes, client: u32, part: &Part, other: Part) -> Reply
+    requires { IsThere (space_of indexes.old).parts other }
+    ensures { Does indexes.old indexes.new indexes.old.regions.slabs (put_beside (space_of indexes.old) client part.now (Some other)) result }
+{
+    let state = State::Flight(client, other.state.rest());
+    indexes.extents.change(&other, state, other.committed);
+    Reply::Beside(other.span)
+}
+
+/// Puts an extent in flight down that has no neighbour, unless it is to be purged.
+fn put_down(indexes: &mut Indexes, client: u32, part: Part) -> Reply
+    requires { IsThere (space_of indexes.old).parts part }
+    ensures { Does indexes.old indexes.new indexes.old.regions.slabs (put_beside (space_of indexes.old) client part None) result }
+{
+    if is_purged(indexes, &part) {
+        let lazy = purges::is_lazy(indexes);
+        return Reply::Purge { lazy };
+    }
+    let state = part.state.rest().state();
+    indexes.extents.change(&part, state, part.committed);
+    Reply::Next(indexes.extents.next_flight(client))
+}
+
 /// Looks for a neighbour of an extent in flight that may be merged with it, and puts the extent down where there is none.
 pub fn put_look(indexes: &mut Indexes, client: u32, span: Span, tries: u8) -> Reply
     ensures { Does indexes.old indexes.new indexes.old.regions.slabs
@@ -28,18 +53,10 @@ pub fn put_look(indexes: &mut Indexes, client: u32, span: Span, tries: u8) -> Re
     let Some(part) = indexes.extents.flight(client, span) else {
         return Reply::Noted;
     };
-    if let Some(other) = indexes.extents.neighbour(tries, &part) {
-        let state = State::Flight(client, other.state.rest());
-        indexes.extents.change(&other, state, other.committed);
-        return Reply::Beside(other.span);
+    match indexes.extents.neighbour(tries, &part) {
+        Some(other) => take_out(indexes, client, &part, other),
+        None => put_down(indexes, client, part),
     }
-    if is_purged(indexes, &part) {
-        let lazy = purges::is_lazy(indexes);
-        return Reply::Purge { lazy };
-    }
-    let state = part.state.rest().state();
-    indexes.extents.change(&part, state, part.committed);
-    Reply::Next(indexes.extents.next_flight(client))
 }
 
 /// Takes in the answer to a merge.

@@ -3,9 +3,9 @@
 ghost use Rattle.std.specs.Prelude.{◌≡◌, ℕ, OnOk};
 ghost use Rattle.arena_core.specs.Indexes.{HasPlaces, space_of};
 
-use crate::extents::Extents;
 use crate::offer_list::OfferList;
 use decay_curve::Decay;
+use part_book::PartBook;
 use region_book::RegionBook;
 use space_model::{Clients, Life};
 use std::alloc::{AllocError as NoMemory, Global};
@@ -14,7 +14,7 @@ use std::alloc::{AllocError as NoMemory, Global};
 #[derive(Drop)]
 pub struct Indexes {
     pub life: Life,
-    pub extents: Extents,
+    pub extents: PartBook,
     pub regions: RegionBook,
     pub offers: OfferList,
     pub bound: Clients,

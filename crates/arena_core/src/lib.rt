@@ -13,7 +13,6 @@ ghost use Rattle.space_model.specs.Counts.{counts_of};
 ghost use Rattle.arena_core.specs.Arenas.{all_rooms, emptied_by_op, entry_of, given_by, opens, room_after, room_of, rooms_after};
 
 mod ends;
-mod extents;
 mod fills;
 mod frees;
 mod holders;
@@ -30,9 +29,9 @@ mod settings;
 mod steps;
 
 use decay_curve::Decay;
-use extents::Extents;
 use indexes::Indexes;
 use offer_list::OfferList;
+use part_book::PartBook;
 use region_book::RegionBook;
 use rooms::Rooms;
 use space_model::{Counts, Life, Op, Reply, Space, Span};
@@ -71,7 +70,7 @@ impl Arena {
             body: Body {
                 indexes: Indexes {
                     life: space.life,
-                    extents: Extents::new(alloc)?,
+                    extents: PartBook::new(alloc)?,
                     regions: RegionBook::new(alloc),
                     offers: OfferList::new(alloc),
                     bound: space.bound,

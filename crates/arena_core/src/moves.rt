@@ -1,17 +1,18 @@
 //! What the operations of a malloc do to the indexes.
 
-ghost use Rattle.std.specs.Prelude.{◌≡◌, ℕ, ◌+◌, ◌*◌, ◌≤◌, ◌<◌, ◌^◌, false, true, IsTrue, Some, find, IfSome};
+ghost use Rattle.std.specs.Prelude.{◌≡◌, ℕ, ◌+◌, ◌-◌, ◌*◌, ◌≤◌, ◌<◌, ◌^◌, false, true, IsTrue, Some, find, IfSome};
+ghost use Rattle.std.specs.List.{range_with_len};
 ghost use Rattle.space_model.specs.Span.{IsPlaced, pages_end, end_of, run_start, chunks_of};
 ghost use Rattle.space_model.specs.Part.{is_flight_at};
 ghost use Rattle.space_model.specs.Step.{cut_stands, grow_stands, land_stands, land_at, after_look, after_cut, after_grow, after_commit, cut_at, whole_at, is_found, is_owned, is_in_space, is_live, why_not, grow_after};
 ghost use Rattle.space_model.specs.Sound.{Sound};
-ghost use Rattle.arena_core.specs.Extents.{IsThere};
+ghost use Rattle.part_book.specs.Books.{IsThere};
 ghost use Rattle.arena_core.specs.Indexes.{Does, HasPlaces, Takes, space_of};
 ghost use Rattle.region_book.specs.RegionLists.{CanBeSlab};
 ghost use Rattle.region_book.specs.Slabs.{slabs_landed};
 
-use crate::extents::Extents;
 use crate::indexes::Indexes;
+use part_book::PartBook;
 use size_classes::PAGE_BYTES;
 use space_model::{
     Answer, Ask, CHUNK_PAGES, Heard, MAX_SERIES, Part, Reply, Rest, Span, State, Why,
@@ -129,26 +130,47 @@ fn is_found(found: Option<u64>, chunk: u64) -> bool
 }
 
 /// Whether a chunk has an owner: it was found in another arena, or an extent of this one meets it.
-fn is_owned(found: Option<u64>, extents: &Extents, chunk: u64) -> bool
+fn is_owned(found: Option<u64>, extents: &PartBook, chunk: u64) -> bool
     requires { chunk < 2 ^ 32 }
     ensures { result ≡ is_owned found extents.now.parts chunk }
 {
     is_found(found, chunk) || extents.meets(Span::of_chunk(chunk))
 }
 
-/// The least chunk of a span in the space that has an owner.
-fn owned_chunk(found: Option<u64>, extents: &Extents, span: Span) -> Option<u64>
+/// The chunk that was found in another arena, if it is one of some.
+#[tactic(auto, using(crate::proofs::Granted::finds_found))]
+fn found_among(found: Option<u64>, low: u64, high: u64) -> Option<u64>
+    requires { low ≤ high }
+    ensures found { result ≡ find (is_found found) (range_with_len low (high - low)) }
+    ensures bound { IfSome result (λ chunk. chunk < high) }
+{
+    let chunk = found?;
+    if low <= chunk && chunk < high {
+        Some(chunk)
+    } else {
+        None
+    }
+}
+
+/// The least chunk of a span in the space that has an owner. Only where an extent meets one of them is each looked at.
+#[tactic(auto, using(crate::proofs::Granted::found_alone))]
+fn owned_chunk(found: Option<u64>, extents: &PartBook, span: Span) -> Option<u64>
     requires { end_of span ≤ pages_end }
     ensures least { result ≡ find (is_owned found extents.now.parts) (chunks_of span) }
     ensures bound { IfSome result (λ chunk. chunk < 2 ^ 32) }
 {
     let low = span.first / CHUNK_PAGES;
     let high = (span.first + span.pages).div_ceil(CHUNK_PAGES);
+    let first = CHUNK_PAGES * low;
+    let pages = CHUNK_PAGES * (high - low);
+    if !extents.meets(Span { first, pages }) {
+        return found_among(found, low, high);
+    }
     (low..high).find(|chunk| is_owned(found, extents, *chunk))
 }
 
 /// Why an answered span can't be taken, or none.
-fn why_not(found: Option<u64>, align: u64, extents: &Extents, span: Span) -> Option<Why>
+fn why_not(found: Option<u64>, align: u64, extents: &PartBook, span: Span) -> Option<Why>
     requires { 1 ≤ align }
     ensures { result ≡ why_not found align extents.now.parts span }
 {

@@ -8,8 +8,8 @@ ghost use Rattle.space_model.specs.Step.{op_stands};
 ghost use Rattle.space_model.specs.Sound.{Sound};
 ghost use Rattle.arena_core.specs.Indexes.{HasPlaces, Takes, space_of};
 
-use crate::extents::Extents;
 use crate::indexes::Indexes;
+use part_book::PartBook;
 use space_model::{Answer, Ask, Heard, Offered, Part, Reply, Rest, Span, State};
 
 /// An extent in flight is the arena's no more, and the client asks the hook to take it.
@@ -30,7 +30,7 @@ pub fn offer(indexes: &mut Indexes, client: u32, span: Span) -> Reply
 }
 
 /// Whether the pages of an offer have an owner again.
-fn is_regranted(found: Option<u64>, extents: &Extents, span: Span) -> bool
+fn is_regranted(found: Option<u64>, extents: &PartBook, span: Span) -> bool
     ensures { result ≡ is_regranted found span extents.now.parts }
 {
     found.is_some() || extents.meets(span)

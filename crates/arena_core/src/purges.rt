@@ -23,7 +23,7 @@ pub fn purge_take(indexes: &mut Indexes, client: u32, rest: Rest, keep: u64) -> 
     if !indexes.life.is_live() {
         return Reply::NoArena;
     }
-    if indexes.extents.listed_pages(rest) <= keep {
+    if indexes.extents.pages(rest) <= keep {
         return Reply::Nothing;
     }
     let Some(part) = indexes.extents.oldest(rest) else {

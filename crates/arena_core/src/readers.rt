@@ -20,9 +20,9 @@ pub fn counts(indexes: &Indexes) -> Counts
     ensures { result ≡ counts_of (space_of indexes.now) }
 {
     let active = PAGE_BYTES * indexes.extents.active_pages();
-    let dirty = PAGE_BYTES * indexes.extents.listed_pages(Rest::Dirty);
-    let muzzy = PAGE_BYTES * indexes.extents.listed_pages(Rest::Muzzy);
-    let retained = PAGE_BYTES * indexes.extents.listed_pages(Rest::Retained);
+    let dirty = PAGE_BYTES * indexes.extents.pages(Rest::Dirty);
+    let muzzy = PAGE_BYTES * indexes.extents.pages(Rest::Muzzy);
+    let retained = PAGE_BYTES * indexes.extents.pages(Rest::Retained);
     let mapped = PAGE_BYTES * indexes.extents.all_pages() - retained;
     let allocated = indexes.regions.bytes();
     let small = indexes.regions.small_bytes();

@@ -7,18 +7,18 @@ ghost use Rattle.space_model.specs.Counts.{region_bytes};
 ghost use Rattle.space_model.specs.Resizing.{after_join, after_trim, after_trim_done, after_widen, has_large, is_open, is_spare, join_stands, large_home, trim_answered, trim_done_stands, trimmed_at, widen_by, widen_stands, widened_at};
 ghost use Rattle.space_model.specs.Step.{holds_at};
 ghost use Rattle.space_model.specs.Sound.{Sound};
-ghost use Rattle.arena_core.specs.Extents.{IsThere};
+ghost use Rattle.part_book.specs.Books.{IsThere};
 ghost use Rattle.arena_core.specs.Indexes.{Does, HasPlaces, Takes, space_of};
 
-use crate::extents::Extents;
 use crate::indexes::Indexes;
 use crate::moves::put_whole;
+use part_book::PartBook;
 use size_classes::PAGE_BYTES;
 use space_model::{Answer, Ask, CHUNK_PAGES, CHUNKS, Heard, Part, Reply, Rest, Span, State};
 
 /// Whether a chunk begins at the page, in the space, and no extent has the page.
 #[tactic(auto, using(list_facts::proofs::Members::is_some_find))]
-fn is_open(extents: &Extents, page: u64) -> bool
+fn is_open(extents: &PartBook, page: u64) -> bool
     ensures { result ≡ is_open extents.now.parts page }
 {
     page % CHUNK_PAGES == 0 && page < CHUNK_PAGES * (CHUNKS + 1) && extents.holding(page).is_none()

@@ -23,8 +23,8 @@ pub fn advance(indexes: &mut Indexes, now: u64) -> Reply
     if !indexes.life.is_live() {
         return Reply::NoArena;
     }
-    let dirty = indexes.extents.listed_pages(Rest::Dirty);
-    let muzzy = indexes.extents.listed_pages(Rest::Muzzy);
+    let dirty = indexes.extents.pages(Rest::Dirty);
+    let muzzy = indexes.extents.pages(Rest::Muzzy);
     Reply::Limits {
         dirty: indexes.dirty.advance(now, dirty),
         muzzy: indexes.muzzy.advance(now, muzzy),

@@ -1,9 +1,9 @@
 -- An extent comes, or goes.
-use Rattle.part_book.proofs.Words.{CanEnter, GainsLists, HasEdges, HaveRows, KeepsOthers, Lists, LosesLists, lists_of, ◌≡◌, ◌≢◌, ℕ, ◌+◌, ◌-◌, ◌/◌, ◌^◌, ◌<◌, ◌≤◌, Bool, true, false, cond, eqb, ltb, ◌||◌, List, [], ◌∷◌, ◌++◌, filter, find, length, count_by, Option, Some, None, is_some, option_map, set_at, vec_len, vec_capacity, inl, inr, refl, sym, ap, ◌∙◌, subst, arith, All, length-append, Contains, option_to_list, nat_cmp, sum_by, not, IsSome, unsigned_tied, nat_cmp_total, cases_Bool, eq-eqb, false_from_ne_true, eqb-true, not-true, nat_tests, get_or-set_other, get_or-set_same, length-map, map-append, All-contains, All-filter, All-map, All-push, All-weaker, filter-append, find-append, count_by-le-length, length-filter, sum_by-append, sum_by-cons, sum_by_push, Part, Rest, ToDirty, ToMuzzy, ToRetained, IsPlaced, end_of, meets, has_page, is_listed, begins_at, is_in_flight, AgeList, Table, HasMore, leaves_for, CanList, GainsRow, CanUnlist, LosesRow, IsApart, IsKeyed, Row, first_key, is_edge, keys_with, listed_in, numbers_of, part_at, size_key, with_edges, keys_without, without_edges, CanLower, HasListRoom, IsListOf, IsSlotted, IsRowTable, KeepsExtents, parts_of, rows_of, IsRowAt, all_from, bit, count_some, find_none, map_has, count_less_one, count_kept, count_map, filter_all_of, filter_map_is, filter_none_of, filter_swap, find_kept, found, kept_length, only, sum_by-filter_both, filter_from, filter_has, Pages}
+use Rattle.part_book.proofs.Words.{IsThere, ArePagesOf, GainsPages, IsTrue, PageSums, is_active, CanEnter, GainsLists, HasEdges, HaveRows, KeepsOthers, Lists, LosesLists, lists_of, ◌≡◌, ◌≢◌, ℕ, ◌+◌, ◌-◌, ◌/◌, ◌^◌, ◌<◌, ◌≤◌, Bool, true, false, cond, eqb, ltb, ◌||◌, List, [], ◌∷◌, ◌++◌, filter, find, length, count_by, Option, Some, None, is_some, option_map, set_at, vec_len, vec_capacity, inl, inr, refl, sym, ap, ◌∙◌, subst, arith, All, length-append, Contains, option_to_list, nat_cmp, sum_by, not, IsSome, unsigned_tied, nat_cmp_total, cases_Bool, eq-eqb, false_from_ne_true, eqb-true, not-true, nat_tests, get_or-set_other, get_or-set_same, length-map, map-append, All-contains, All-filter, All-map, All-push, All-weaker, filter-append, find-append, count_by-le-length, length-filter, sum_by-append, sum_by-cons, sum_by_push, Part, Rest, ToDirty, ToMuzzy, ToRetained, IsPlaced, end_of, meets, has_page, is_listed, begins_at, is_in_flight, AgeList, Table, HasMore, leaves_for, CanList, GainsRow, CanUnlist, LosesRow, IsApart, IsKeyed, Row, first_key, is_edge, keys_with, listed_in, numbers_of, part_at, size_key, with_edges, keys_without, without_edges, CanLower, HasListRoom, IsListOf, IsSlotted, IsRowTable, KeepsExtents, parts_of, rows_of, all_from, bit, count_some, find_none, map_has, count_less_one, count_kept, count_map, filter_all_of, filter_map_is, filter_none_of, filter_swap, find_kept, found, kept_length, only, sum_by-filter_both, filter_from, filter_has, Pages}
 use Rattle.part_book.proofs.Indexes.{IsLeafed, in_slots, keeps, parts_in, edge_none, edge_part, edge_row, slot_of, small_numbers}
 use Rattle.part_book.proofs.Keyed.{first_own, key_absent, keyed_more, size_own, keyed_less}
 use Rattle.part_book.proofs.Parts.{edge_has, begins_by_edge}
-use Rattle.part_book.proofs.Rowed.{apart_more, page_meets, pages_most, row_placed, apart_less, numbers_most, one_number, one_row, other_row, others, others_apart, others_begin}
+use Rattle.part_book.proofs.Rowed.{apart_more, page_meets, pages_most, pages_of_row, serving_of, sums_most, row_placed, apart_less, numbers_most, one_number, one_row, other_row, others, others_apart, others_begin}
 use Rattle.std.specs.FinMap as map_of
 
 -- an extent with a number that no other has, and that meets no other, where there are so many slots
@@ -133,6 +133,8 @@ module _ (rows : List Row) (row : Row) (slots : ℕ) (f : IsFresh slots rows row
       let flown = ap length l.flights ∙ length-map (filter in_flight rows) (λ r. r.number) in
       let small = f.small in
       let slot = f.slot in
+      let own = f.placed in
+      let sums = sums_most t.sums rows apart l.sums in
       record {
         placed = f.placed;
         dirty = can_list apart ToDirty t.dirty l.dirty;
@@ -140,6 +142,8 @@ module _ (rows : List Row) (row : Row) (slots : ℕ) (f : IsFresh slots rows row
         retained = can_list apart ToRetained t.retained l.retained;
         sizes = λ _. omega (arith, unused_most rows, room.sizes);
         absent = key_absent size_key rows row t.sizes.keys l.sizes (λ r k n a b. size_own r row k (let low = (f.others r n).1 in omega arith) (omega arith) a b) (λ r n. (f.others r n).0);
+        within = sums.0;
+        fits = omega (arith, sums.1, f.few);
         flights = omega (arith, t.flights.ok.0, room.flights, length-filter in_flight rows, count_by-le-length in_flight rows);
       }
 
@@ -161,6 +165,7 @@ module _ (rows : List Row) (row : Row) (slots : ℕ) (f : IsFresh slots rows row
     dirty = listed_more ToDirty l.dirty k.dirty has.dirty g.dirty;
     muzzy = listed_more ToMuzzy l.muzzy k.muzzy has.muzzy g.muzzy;
     retained = listed_more ToRetained l.retained k.retained has.retained g.retained;
+    sums = record { all = omega (arith, has.sums.all, g.sums.all, sum_by_push pages_of_row rows row); active = omega (arith, has.sums.active, g.sums.active, sum_by_push serving_of rows row) };
     flights = g.flights ∙ ap (λ ns. ns ++ cond (is_in_flight row.part.state) (row.number ∷ []) []) has.flights ∙ sym (more_numbers (λ r. is_in_flight r.part.state) rows row);
     sizes = subst (IsKeyed size_key (rows ++ row ∷ [])) (sym g.sizes) (keyed_more size_key rows row l.sizes has.sizes);
   }
@@ -201,20 +206,20 @@ some_number t first None i some e = absurd (
     let no = subst IsSome none some in cc)
 some_number t first (Some number) i some e = refl
 
--- the slot of that number has the extent
-pub row_read : (t : Table) (first number : ℕ) → IsRowTable t (rows_of t) → IsSome (find (begins_at first) (parts_of t)) →
-    map_of.get t.edges.numbers first ≡ Some number → IsRowAt t first (record { number = number; part = part_at t.slots.items number })
-row_read t first number i some e = grind (arith, nat_tests, begins_by_edge, edge_part, edge_row, slot_of)
-
--- it begins there
-pub row_first : (t : Table) (first : ℕ) (row : Row) → IsRowAt t first row → row.part.span.first ≡ first
-row_first t first row at = eqb-true row.part.span.first first (found (begins_at first) (parts_of t) row.part at.found).1
+-- the extent has that number
+pub row_read : (t : Table) (p : Part) (number : ℕ) → IsRowTable t (rows_of t) → IsThere (parts_of t) p → map_of.get t.edges.numbers p.span.first ≡ Some number → Contains (rows_of t) (record { number = number; part = p })
+row_read t p number i there e =
+    let r = edge_row t (rows_of t) p.span.first number i e in
+    let slot = slot_of t (rows_of t) r.0 i r.2 r.3 in
+    let begins = begins_by_edge (parts_of t) p.span.first i.indexes.apart _ (edge_part t (rows_of t) p.span.first number i e) in
+    let is : r.0.part ≡ p = grind (arith, nat_tests, begins, there, slot.1) in
+    let same : r.0 ≡ record { number = number; part = p } = λ k. record { number = r.3 k; part = is k } in
+    subst (Contains (rows_of t)) same r.2
 
 -- and the others don't meet it
-pub row_apart : (t : Table) (first : ℕ) (row : Row) → IsRowTable t (rows_of t) → IsRowAt t first row → All (λ p. meets p.span row.part.span ≡ false) (filter (λ p. not (begins_at first p)) (parts_of t))
-row_apart t first row i at =
-    subst (All (λ p. meets p.span row.part.span ≡ false)) (others_begin t (rows_of t) row first i at.there (found (begins_at first) (parts_of t) row.part at.found).1)
-    (others_apart t (rows_of t) row i at.there)
+pub row_apart : (t : Table) (row : Row) → IsRowTable t (rows_of t) → Contains (rows_of t) row → All (λ p. meets p.span row.part.span ≡ false) (filter (λ p. not (begins_at row.part.span.first p)) (parts_of t))
+row_apart t row i m =
+    subst (All (λ p. meets p.span row.part.span ≡ false)) (others_begin t (rows_of t) row row.part.span.first i m (eq-eqb row.part.span.first row.part.span.first refl)) (others_apart t (rows_of t) row i m)
 
 -- ---- one extent less
 
@@ -241,28 +246,22 @@ module _ (t : Table) (rows : List Row) (row : Row) (i : IsRowTable t rows) (m : 
       (λ f. filter_all_of (λ r. not (eqb r.number row.number)) (filter test rows) (λ r n. let p = filter_from test rows r n in differs test r p.0 p.1 f)) in
       ap numbers_of (filter_swap test (λ r. not (eqb r.number row.number)) rows) ∙ grind (arith, filter_map_is (λ (r : Row). r.number) (λ n. not (eqb n row.number)) (filter test rows), all)
 
-  -- and its pages are left out of the sum
-  sum_less : (test : Row → Bool) → sum_by (λ r. r.part.span.pages) (filter test (others row.number rows)) + cond (test row) row.part.span.pages 0 ≡ sum_by (λ r. r.part.span.pages) (filter test rows)
-  sum_less test =
-      let pages : Row → ℕ = λ r. r.part.span.pages in
+  -- and what it comes to is left out of a sum
+  pub sum_fewer : (f : Row → ℕ) → sum_by f (others row.number rows) + f row ≡ sum_by f rows
+  sum_fewer f =
       let own : Row → Bool = λ r. eqb r.number row.number in
-      let both = sum_by-filter_both own (λ r. not (own r)) (λ r. refl) pages (filter test rows) in
-      let left = ap (sum_by pages) (filter_swap test (λ r. not (own r)) rows) in
-      omega (arith, both, left, alone)
-    where
-      none : (xs : List Row) → ((r : Row) → Contains xs r → not (eqb r.number row.number) ≡ true) → filter (λ r. eqb r.number row.number) xs ≡ []
-      none xs apart = filter_none_of (λ r. eqb r.number row.number) xs (λ r n. not-true (eqb r.number row.number) (apart r n))
+      let most = numbers_most t rows row.number i.slots in
+      let len = length-filter own rows in
+      let alone = ap (sum_by f) (only (filter own rows) row (omega arith) (filter_has own rows row m (eq-eqb row.number row.number refl))) ∙ sum_by-cons f row [] in
+      omega (arith, sum_by-filter_both own (λ r. not (own r)) (λ r. refl) f rows, alone)
 
-      alone : sum_by (λ r. r.part.span.pages) (filter (λ r. eqb r.number row.number) (filter test rows)) ≡ cond (test row) row.part.span.pages 0
-      alone = elim (cases_Bool (test row)) [
-        | inl u ↦
-            let kept = count_kept test (λ r. eqb r.number row.number) rows in
-            let most = numbers_most t rows row.number i.slots in
-            let len = length-filter (λ (r : Row). eqb r.number row.number) (filter test rows) in
-            let is = only (filter (λ r. eqb r.number row.number) (filter test rows)) row (omega arith) (filter_has (λ r. eqb r.number row.number) (filter test rows) row (filter_has test rows row m u) (eq-eqb row.number row.number refl)) in
-            rw (u, is) (omega (arith, sum_by-cons (λ (r : Row). r.part.span.pages) row []))
-        | inr f ↦ rw f (ap (sum_by (λ (r : Row). r.part.span.pages)) (none (filter test rows) (λ r n. let p = filter_from test rows r n in differs test r p.0 p.1 f)))
-      ]
+  -- also of one over those that pass
+  sum_less : (test : Row → Bool) → sum_by pages_of_row (filter test (others row.number rows)) + cond (test row) row.part.span.pages 0 ≡ sum_by pages_of_row (filter test rows)
+  sum_less test = omega (arith, sum_fewer (λ r. cond (test r) r.part.span.pages 0), sum_where test rows, sum_where test (others row.number rows))
+    where
+      sum_where : (test : Row → Bool) (xs : List Row) → sum_by pages_of_row (filter test xs) ≡ sum_by (λ r. cond (test r) r.part.span.pages 0) xs
+      sum_where test [] = refl
+      sum_where test (x ∷ xs) = grind (arith, sum_where test xs, sum_by-cons pages_of_row x (filter test xs), sum_by-cons (λ (r : Row). cond (test r) r.part.span.pages 0) x xs)
 
   -- its number is among those that pass once at most
   pub once : (test : Row → Bool) → count_by (λ n. eqb n row.number) (numbers_of (filter test rows)) ≤ 1
@@ -295,6 +294,15 @@ module _ (t : Table) (rows : List Row) (row : Row) (i : IsRowTable t rows) (m : 
         places = omega (arith, l.places, lost.places);
       }
 
+  -- the sums lack its pages
+  pub can_lose : (row.part.span.pages ≤ t.sums.all) × (IsTrue (is_active row.part.state) → row.part.span.pages ≤ t.sums.active)
+  can_lose =
+      let sums = i.indexes.lists.sums in
+      (omega (arith, sums.all, sum_fewer pages_of_row), λ is. (let own : serving_of row ≡ row.part.span.pages = ap (λ b. cond b row.part.span.pages 0) is in omega (arith, sums.active, sum_fewer serving_of)))
+
+  sums_less : (u : PageSums) → GainsPages u t.sums row.part → ArePagesOf u (others row.number rows)
+  sums_less u lost = let sums = i.indexes.lists.sums in record { all = omega (arith, sums.all, lost.all, sum_fewer pages_of_row); active = omega (arith, sums.active, lost.active, sum_fewer serving_of) }
+
   -- the lists lack it
   pub lists_less : (k : Lists) → LosesLists (lists_of t) k row → HaveRows k (vec_len t.slots) (others row.number rows)
   lists_less k lost =
@@ -303,6 +311,7 @@ module _ (t : Table) (rows : List Row) (row : Row) (i : IsRowTable t rows) (m : 
         dirty = listed_less ToDirty t.dirty k.dirty l.dirty lost.dirty;
         muzzy = listed_less ToMuzzy t.muzzy k.muzzy l.muzzy lost.muzzy;
         retained = listed_less ToRetained t.retained k.retained l.retained lost.retained;
+        sums = sums_less k.sums lost.sums;
         flights = lost.flights ∙ ap (λ ns. cond (is_in_flight row.part.state) (filter (λ n. not (eqb n row.number)) ns) ns) l.flights ∙ sym (less (λ r. is_in_flight r.part.state));
         sizes = subst (IsKeyed size_key (others row.number rows)) (sym lost.sizes) (keyed_less size_key rows row t.sizes.keys l.sizes m one (λ r k n e f. size_own r row k (small_numbers t rows i.slots r n) (small_numbers t rows i.slots row m) e f));
       }
@@ -389,18 +398,17 @@ table_added t s u row i unused placed apart order places lists kept firsts numbe
           omega arith) (omega (arith, length-append rows (row ∷ []))) (omega arith);
     }))
 
--- without the extent that begins at a page, the table keeps those that begin elsewhere
-pub table_removed : (t u : Table) (row : Row) (first : ℕ) → IsRowTable t (rows_of t) → IsRowAt t first row → u.order.numbers ≡ filter (λ n. not (eqb n row.number)) t.order.numbers → u.order.places ≡ t.order.places → LosesLists (lists_of t) (lists_of u) row →
+-- without an extent, the table keeps those that begin elsewhere
+pub table_removed : (t u : Table) (row : Row) → IsRowTable t (rows_of t) → Contains (rows_of t) row → u.order.numbers ≡ filter (λ n. not (eqb n row.number)) t.order.numbers → u.order.places ≡ t.order.places → LosesLists (lists_of t) (lists_of u) row →
     u.slots ≡ t.slots → u.firsts.keys ≡ keys_without t.firsts.keys (first_key row) → u.edges.numbers ≡ without_edges t.edges.numbers row.part.span → u.edges.chunks ≡ t.edges.chunks →
-    u.free.items ≡ t.free.items ++ row.number ∷ [] → vec_len u.free ≡ vec_len t.free + 1 → vec_capacity t.free ≤ vec_capacity u.free → KeepsExtents u (filter (λ p. not (begins_at first p)) (parts_of t))
-table_removed t u row first i at order places lists slots firsts numbers chunks free free_len room =
+    u.free.items ≡ t.free.items ++ row.number ∷ [] → vec_len u.free ≡ vec_len t.free + 1 → vec_capacity t.free ≤ vec_capacity u.free → KeepsExtents u (filter (λ p. not (begins_at row.part.span.first p)) (parts_of t))
+table_removed t u row i m order places lists slots firsts numbers chunks free free_len room =
     let rows = rows_of t in
     let x = i.indexes in
     let rest = others row.number rows in
-    let m = at.there in
     let len : vec_len t.slots ≡ vec_len u.slots = ap (λ v. vec_len v) (sym slots) in
     let all = x.places in
-    subst (KeepsExtents u) (others_begin t rows row first i m (found (begins_at first) (parts_of t) row.part at.found).1) (keeps u rest (record {
+    subst (KeepsExtents u) (others_begin t rows row row.part.span.first i m (eq-eqb row.part.span.first row.part.span.first refl)) (keeps u rest (record {
       indexes = record {
         apart = apart_less row.number rows x.apart;
         order = order_less t rows row i m u.order.numbers order;

@@ -1,5 +1,5 @@
 -- What an exchange makes of the extents, and of their slots.
-use Rattle.part_book.proofs.Words.{HaveRows, GainsLists, HasMore, LosesLists, lists_of, set_at, ◌≡◌, ◌≢◌, ℕ, ◌-◌, ◌≤◌, nat_cmp, unsigned_tied, nat_cmp_total, true, false, not, eqb, [], ◌∷◌, ◌++◌, filter, length-append, Some, option_map, vec_len, vec_capacity, refl, sym, ap, ◌∙◌, subst, arith, All, Contains, count_by, ◌<◌, ◌||◌, List, find, Option, None, IfSome, IsSome, eqb-true, not_from_false, nat_tests, map-append, All-contains, All-filter, All-push, All-weaker, sum_by_push, Pages, Part, Span, IsPlaced, end_of, has_page, meets, begins_at, exchanged, Table, IsKeyed, Own, Row, first_key, is_edge, with_edges, without_edges, IsApart, IsRowTable, KeepsExtents, parts_of, rows_of, bit, find_is, all_from, filter_neither, filter_swap, find_kept, found, low_piece, high_piece, AreBeside, joined, leaves_for}
+use Rattle.part_book.proofs.Words.{IsThere, begins_either, HaveRows, GainsLists, HasMore, LosesLists, lists_of, set_at, ◌≡◌, ◌≢◌, ℕ, ◌-◌, ◌≤◌, nat_cmp, unsigned_tied, nat_cmp_total, true, false, not, eqb, [], ◌∷◌, ◌++◌, filter, length-append, Some, option_map, vec_len, vec_capacity, refl, sym, ap, ◌∙◌, subst, arith, All, Contains, count_by, ◌<◌, ◌||◌, List, find, Option, None, IfSome, IsSome, eqb-true, not_from_false, nat_tests, map-append, All-contains, All-filter, All-push, All-weaker, sum_by_push, Pages, Part, Span, IsPlaced, end_of, has_page, meets, begins_at, exchanged, Table, IsKeyed, Own, Row, first_key, is_edge, with_edges, without_edges, IsApart, IsRowTable, KeepsExtents, parts_of, rows_of, bit, find_is, all_from, filter_neither, filter_swap, find_kept, found, low_piece, high_piece, AreBeside, joined, leaves_for}
 use Rattle.part_book.proofs.Additions.{IsFresh, count_fewer, edges_less, edges_more, fewer, fresh_again, lists_less, lists_more, numbers_less, numbers_more, one, order_less, parts_more, slots_less, slots_more, slotted}
 use Rattle.part_book.proofs.Indexes.{in_slots, keeps, parts_in}
 use Rattle.part_book.proofs.Keyed.{keyed_same}
@@ -117,33 +117,12 @@ high_apart left p low others now fewer all same e =
 
 -- ---- a join
 
--- the first of two extents that are joined is still found when the second one is gone
-pub record IsPair (low high : ℕ) (old : List Part) (p q : Part) : Type 0 where
-  pub found : find (begins_at low) old ≡ Some p
-  pub beside : AreBeside p q
-  pub later : find (begins_at low) (filter (λ x. not (begins_at high x)) old) ≡ Some p
-
-pub pair : (low high : ℕ) (old now : List Part) (q : Part) → old ≡ now → IsSome (find (begins_at low) now) →
-    IfSome (find (begins_at low) now) (λ x. IfSome (find (begins_at high) now) (λ y. AreBeside x y)) → find (begins_at high) old ≡ Some q → IsApart old → (p : Part) × IsPair low high old p q
-pair low high old now q same some beside e apart = by (find (begins_at low) now) refl
-  where
-    by : (o : Option Part) → find (begins_at low) now ≡ o → (p : Part) × IsPair low high old p q
-    by None f = absurd (let no = subst IsSome f some in cc)
-    by (Some p) f =
-        let was : find (begins_at low) old ≡ Some p = ap (find (begins_at low)) same ∙ f in
-        let both : AreBeside p q = rw (f, sym (ap (find (begins_at high)) same) ∙ e) at beside in
-        let there = found (begins_at low) old p was in
-        let p_is = eqb-true p.span.first low there.1 in
-        let q_is = eqb-true q.span.first high (found (begins_at high) old q e).1 in
-        let inside = placed old p apart there.0 in
-        let less : low < high = omega arith in
-        (p, record { found = was; beside = both; later = find_kept (begins_at low) (λ x. not (begins_at high x)) old (λ x m t. not_from_false (begins_at high x) (grind (arith, nat_tests))) ∙ was })
-
--- and it is the one that is found then
-pub pair_is : (low high : ℕ) (old now left : List Part) (p q : Part) → old ≡ now → IsSome (find (begins_at low) now) →
-    IfSome (find (begins_at low) now) (λ x. IfSome (find (begins_at high) now) (λ y. AreBeside x y)) → find (begins_at high) old ≡ Some q → IsApart old →
-    left ≡ filter (λ x. not (begins_at high x)) old → find (begins_at low) left ≡ Some p → IsPair low high old p q
-pair_is low high old now left p q same some beside e apart less f = grind (arith, nat_tests, pair)
+-- the first of two extents that are joined is still there when the second one is gone
+pub still_there : (parts : List Part) (p q : Part) → IsApart parts → IsThere parts p → AreBeside p q → IsThere (filter (λ x. not (begins_at q.span.first x)) parts) p
+still_there parts p q apart there beside =
+    let inside = placed parts p apart (found (begins_at p.span.first) parts p there).0 in
+    let less : p.span.first < q.span.first = omega arith in
+    find_kept (begins_at p.span.first) (λ x. not (begins_at q.span.first x)) parts (λ x m t. not_from_false (begins_at q.span.first x) (grind (arith, nat_tests))) ∙ there
 
 -- two extents of the space as one lie in the space
 pub joined_placed : (p q : Part) → IsPlaced p.span → IsPlaced q.span → AreBeside p q → IsPlaced (joined p q).span
@@ -167,10 +146,5 @@ pub joined_leaves : (t : Pages) (p q : Part) → AreBeside p q → leaves_for t 
 joined_leaves t p q beside of_p of_q = grind (arith, nat_tests, leaves_both, leaves_none)
 
 -- the extents after a join
-pub join_parts : (old now t v : List Part) (low high at : ℕ) (p q : Part) → old ≡ now → find (begins_at low) old ≡ Some p → find (begins_at high) old ≡ Some q → t ≡ filter (λ x. not (begins_at high x)) old → at ≡ low → v ≡ exchanged (begins_at at) t (joined p q ∷ []) →
-    IfSome (find (begins_at low) now) (λ x. IfSome (find (begins_at high) now) (λ y. v ≡ exchanged (λ r. begins_at low r || begins_at high r) now (joined x y ∷ [])))
-join_parts old now t v low high at p q same e f less is more =
-    rw (sym (ap (find (begins_at low)) same) ∙ e, sym (ap (find (begins_at high)) same) ∙ f) (
-    more ∙ ap (λ n. exchanged (begins_at n) t (joined p q ∷ [])) is ∙ ap (λ xs. exchanged (begins_at low) xs (joined p q ∷ [])) less
-    ∙ ap (λ xs. xs ++ joined p q ∷ []) (filter_swap (λ x. not (begins_at low x)) (λ x. not (begins_at high x)) old ∙ filter_neither (begins_at low) (begins_at high) old)
-    ∙ ap (λ xs. exchanged (λ r. begins_at low r || begins_at high r) xs (joined p q ∷ [])) same)
+pub join_parts : (parts : List Part) (p q : Part) → exchanged (begins_at p.span.first) (filter (λ x. not (begins_at q.span.first x)) parts) (joined p q ∷ []) ≡ exchanged (begins_either p q) parts (joined p q ∷ [])
+join_parts parts p q = ap (λ xs. xs ++ joined p q ∷ []) (filter_swap (λ x. not (begins_at p.span.first x)) (λ x. not (begins_at q.span.first x)) parts ∙ filter_neither (begins_at p.span.first) (begins_at q.span.first) parts)

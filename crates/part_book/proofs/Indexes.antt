@@ -194,8 +194,8 @@ no_keys key_of keys e = grind (arith, nat_tests)
 
 -- a table whose indexes have nothing
 pub empty_table : (t : Table) → t.order.numbers ≡ [] → (dirty : t.dirty ≡ record { ages = record { numbers = []; places = 0 }; pages = 0 }) → (muzzy : t.muzzy ≡ record { ages = record { numbers = []; places = 0 }; pages = 0 }) → (retained : t.retained ≡ record { ages = record { numbers = []; places = 0 }; pages = 0 }) →
-    t.flights.items ≡ [] → t.firsts.keys ≡ [] → t.sizes.keys ≡ [] → t.edges.numbers ≡ map_of.empty → vec_len t.slots ≡ 0 → t.free.items ≡ [] → vec_len t.free ≡ 0 → KeepsExtents t []
-empty_table t order dirty muzzy retained flights firsts sizes numbers slots free free_len = keeps t [] (record {
+    t.flights.items ≡ [] → t.sums ≡ record { all = 0; active = 0 } → t.firsts.keys ≡ [] → t.sizes.keys ≡ [] → t.edges.numbers ≡ map_of.empty → vec_len t.slots ≡ 0 → t.free.items ≡ [] → vec_len t.free ≡ 0 → KeepsExtents t []
+empty_table t order dirty muzzy retained flights sums firsts sizes numbers slots free free_len = keeps t [] (record {
   indexes = record {
     apart = record { placed = All-nil (λ p. IsPlaced p.span); owners = λ page. omega arith };
     order = order;
@@ -205,6 +205,7 @@ empty_table t order dirty muzzy retained flights firsts sizes numbers slots free
       muzzy = no_list ToMuzzy t.muzzy (vec_len t.slots) muzzy slots;
       retained = no_list ToRetained t.retained (vec_len t.slots) retained slots;
       flights = flights;
+      sums = record { all = ap (λ s. s.all) sums; active = ap (λ s. s.active) sums };
       sizes = no_keys size_key t.sizes.keys sizes;
     };
     firsts = no_keys first_key t.firsts.keys firsts;

@@ -7,6 +7,7 @@ pub mod Fitting
 pub mod Indexes
 pub mod Keyed
 pub mod Parts
+pub mod Searches
 pub mod Additions
 pub mod Rooms
 pub mod Rowed

@@ -1,5 +1,5 @@
 -- A table that was given room keeps its extents.
-use Rattle.part_book.proofs.Words.{◌≡◌, ℕ, ◌+◌, ◌<◌, ◌≤◌, eqb, ltb, count_by, vec_len, vec_capacity, sym, ap, ◌∙◌, subst, arith, refl, All, Table, AgesGrow, IsKeyed, first_key, part_at, size_key, HasRoomFor, IsRowTable, KeepsExtents, parts_of, rows_of, all_from, bit, nat_tests}
+use Rattle.part_book.proofs.Words.{◌≡◌, ℕ, ◌+◌, ◌<◌, ◌≤◌, eqb, ltb, count_by, vec_len, vec_capacity, sym, ap, ◌∙◌, subst, arith, refl, All, Table, ArePagesOf, AgesGrow, IsKeyed, first_key, part_at, size_key, HasRoomFor, IsRowTable, KeepsExtents, parts_of, rows_of, all_from, bit, nat_tests}
 use Rattle.part_book.proofs.Indexes.{IsLeafed, in_slot, in_slots, keeps}
 use Rattle.std.specs.FinMap as map_of
 
@@ -12,6 +12,7 @@ pub record IsSame (t u : Table) : Type 0 where
   pub dirty_pages : u.dirty.pages ≡ t.dirty.pages
   pub muzzy_pages : u.muzzy.pages ≡ t.muzzy.pages
   pub retained_pages : u.retained.pages ≡ t.retained.pages
+  pub sums : u.sums ≡ t.sums
   pub sizes : u.sizes.keys ≡ t.sizes.keys
   pub firsts : u.firsts.keys ≡ t.firsts.keys
   pub numbers : u.edges.numbers ≡ t.edges.numbers
@@ -46,6 +47,7 @@ same_table t u i a b =
           muzzy = record { numbers = a.muzzy.numbers ∙ l.muzzy.numbers; pages = a.muzzy_pages ∙ l.muzzy.pages; places = b.muzzy };
           retained = record { numbers = a.retained.numbers ∙ l.retained.numbers; pages = a.retained_pages ∙ l.retained.pages; places = b.retained };
           flights = b.flights ∙ l.flights;
+          sums = subst (λ s. ArePagesOf s rows) (sym a.sums) l.sums;
           sizes = subst (IsKeyed size_key rows) (sym a.sizes) l.sizes;
         };
         firsts = subst (IsKeyed first_key rows) (sym a.firsts) x.firsts;

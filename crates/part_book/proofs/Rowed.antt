@@ -1,10 +1,17 @@
 -- The extents of a table and their numbers: which are the same, and which share no page.
-use Rattle.part_book.proofs.Words.{◌≢◌, ◌≡◌, ℕ, ◌*◌, ◌≤◌, Bool, true, false, not, eqb, List, [], ◌∷◌, ◌++◌, filter, length, count_by, inl, inr, refl, sym, ap, ◌∙◌, subst, arith, All, Contains, cases_lt, eq-eqb, false_from_ne_true, not-true, nat_tests, All-contains, All-filter, All-push, count_by-le-length, length-filter, sum_by-le, sum_by_push, filter_from, Part, IsPlaced, has_page, meets, pages_end, Rest, begins_at, is_listed, Table, IsApart, Row, pages_of_rows, IsSlotted, IsRowTable, all_from, bit, count_kept, count_map, count_none, filter_map_is, filter_same, map_from, map_has, only_one}
+use Rattle.part_book.proofs.Words.{◌≢◌, ◌≡◌, ℕ, ◌*◌, ◌≤◌, Bool, true, false, not, eqb, List, [], ◌∷◌, ◌++◌, filter, length, count_by, inl, inr, refl, sym, ap, ◌∙◌, subst, arith, All, Contains, cases_lt, eq-eqb, false_from_ne_true, not-true, nat_tests, All-contains, All-filter, All-push, count_by-le-length, length-filter, sum_by, sum_by-cons, sum_by-le, sum_by-le-sum_by, sum_by_push, filter_from, Part, IsPlaced, has_page, meets, pages_end, Rest, begins_at, cond, is_active, is_listed, PageSums, ArePagesOf, active_pages, all_pages, parts_of, rows_of, Table, IsApart, Row, pages_of_rows, IsSlotted, IsRowTable, all_from, bit, count_kept, count_map, count_none, filter_map_is, filter_same, map_from, map_has, only_one}
 use Rattle.part_book.proofs.Indexes.{parts_in}
 use Rattle.part_book.proofs.Parts.{begins_has, placed}
 
 pub row_placed : (rows : List Row) (r : Row) → IsApart (parts_in rows) → Contains rows r → IsPlaced r.part.span
 row_placed rows r apart m = placed (parts_in rows) r.part apart (map_has (λ row. row.part) rows r m)
+
+-- the pages of an extent, and those that serve regions
+abbrev pub pages_of_row : Row → ℕ
+pages_of_row r = r.part.span.pages
+
+abbrev pub serving_of : Row → ℕ
+serving_of r = cond (is_active r.part.state) r.part.span.pages 0
 
 -- the extents of a rest have no more pages than so many extents can have
 pub pages_most : (rest : Rest) (rows : List Row) → IsApart (parts_in rows) → pages_of_rows rest rows ≤ length rows * pages_end
@@ -12,6 +19,23 @@ pages_most rest rows apart =
     let test : Row → Bool = λ r. is_listed rest r.part.state in
     let inside : All (λ r. r.part.span.pages ≤ pages_end) (filter test rows) = All-filter test (λ r. r.part.span.pages ≤ pages_end) rows (all_from (λ r. r.part.span.pages ≤ pages_end) rows (λ r m. let placed = row_placed rows r apart m in omega arith)) in
     omega (arith, sum_by-le (λ (r : Row). r.part.span.pages) pages_end (filter test rows) inside, length-filter test rows, count_by-le-length test rows)
+
+-- nor have all together, and those that serve regions have no more than all
+pub sums_most : (sums : PageSums) (rows : List Row) → IsApart (parts_in rows) → ArePagesOf sums rows → (sums.active ≤ sums.all) × (sums.all ≤ length rows * pages_end)
+sums_most sums rows apart are =
+    let inside : All (λ r. r.part.span.pages ≤ pages_end) rows = all_from (λ r. r.part.span.pages ≤ pages_end) rows (λ r m. let placed = row_placed rows r apart m in omega arith) in
+    (omega (arith, are.all, are.active, sum_by-le-sum_by serving_of pages_of_row rows (λ r. grind arith)), omega (arith, are.all, sum_by-le pages_of_row pages_end rows inside))
+
+-- the sums of a table are those of its extents
+sum_parts : (f : Part → ℕ) (rows : List Row) → sum_by f (parts_in rows) ≡ sum_by (λ r. f r.part) rows
+sum_parts f [] = refl
+sum_parts f (r ∷ rows) = omega (arith, sum_parts f rows, sum_by-cons f r.part (parts_in rows), sum_by-cons (λ (x : Row). f x.part) r rows)
+
+pub all_sum : (t : Table) → IsRowTable t (rows_of t) → t.sums.all ≡ all_pages (parts_of t)
+all_sum t i = i.indexes.lists.sums.all ∙ sym (sum_parts (λ p. p.span.pages) (rows_of t))
+
+pub active_sum : (t : Table) → IsRowTable t (rows_of t) → t.sums.active ≡ active_pages (parts_of t)
+active_sum t i = i.indexes.lists.sums.active ∙ sym (sum_parts (λ p. cond (is_active p.state) p.span.pages 0) (rows_of t))
 
 -- a page is that of one extent
 pub one_row : (rows : List Row) → IsApart (parts_in rows) → (page : ℕ) (x y : Row) → Contains rows x → Contains rows y → has_page page x.part.span ≡ true → has_page page y.part.span ≡ true → y ≡ x

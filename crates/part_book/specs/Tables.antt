@@ -1,18 +1,19 @@
 -- The indexes of a table, and what they keep of its extents.
-use Rattle.std.specs.Prelude.{◌≡◌, ◌≢◌, ◌==◌, ℕ, ◌+◌, ◌-◌, ◌/◌, ◌^◌, ◌<◌, ◌≤◌, true, not, List, [], ◌∷◌, ◌++◌, map, filter, find, IsSome, IfSome, cond, nat_lt, length, count_by, option_map, Some, vec_len, vec_capacity, All, Contains}
+use Rattle.std.specs.Prelude.{◌≡◌, ◌≢◌, ◌==◌, ℕ, ◌+◌, ◌-◌, ◌/◌, ◌^◌, ◌<◌, ◌≤◌, true, not, List, [], ◌∷◌, ◌++◌, map, filter, find, IsSome, IfSome, cond, nat_lt, length, count_by, option_map, Some, sum_by, vec_len, vec_capacity, All, Contains}
 use Rattle.std.specs.FinMap as map_of
 use Rattle.std.specs.FinSet as set
 use Rattle.space_model.specs.declared.parts.Part.{Part}
 use Rattle.space_model.specs.declared.parts.Rest.{Rest}
 use Rattle.space_model.specs.declared.parts.Rest.TheVariants.{Dirty as ToDirty, Muzzy as ToMuzzy, Retained as ToRetained}
 use Rattle.space_model.specs.Span.{IsPlaced, end_of}
-use Rattle.space_model.specs.Part.{begins_at}
+use Rattle.space_model.specs.Part.{begins_at, is_active}
 use Rattle.space_model.specs.Sound.{is_in_flight}
 use Rattle.ordered_set.specs.declared.key.Key.{Key}
 use Rattle.page_map.specs.Pages.{Pages}
 use Rattle.part_book.specs.declared.table.AgeList.{AgeList}
+use Rattle.part_book.specs.declared.table.PageSums.{PageSums}
 use Rattle.part_book.specs.declared.table.Table.{Table}
-use Rattle.part_book.specs.Lists.{CanList, GainsRow, LosesRow}
+use Rattle.part_book.specs.Lists.{CanList, GainsPages, GainsRow, LosesRow}
 use Rattle.part_book.specs.Rows.{Row, IsApart, IsKeyed, first_key, flights_in, is_edge, keys_with, keys_without, listed_in, numbers_of, pages_of_rows, part_at, row_at, size_key}
 
 -- the extents with their numbers, in their order
@@ -29,16 +30,22 @@ pub record IsListOf (rest : Rest) (list : AgeList) (slots : ℕ) (rows : List Ro
   pub pages : list.pages ≡ pages_of_rows rest rows
   pub places : slots ≤ list.ages.places
 
--- the lists of a table, and the keys of its unused extents
+-- the sums are those of the extents
+pub record ArePagesOf (sums : PageSums) (rows : List Row) : Type 0 where
+  pub all : sums.all ≡ sum_by (λ row. row.part.span.pages) rows
+  pub active : sums.active ≡ sum_by (λ row. cond (is_active row.part.state) row.part.span.pages 0) rows
+
+-- the lists of a table, the sums of its pages, and the keys of its unused extents
 pub record Lists : Type 0 where
   pub dirty : AgeList
   pub muzzy : AgeList
   pub retained : AgeList
   pub flights : List ℕ
+  pub sums : PageSums
   pub sizes : List Key
 
 abbrev pub lists_of : Table → Lists
-lists_of t = record { dirty = t.dirty; muzzy = t.muzzy; retained = t.retained; flights = t.flights.items; sizes = t.sizes.keys }
+lists_of t = record { dirty = t.dirty; muzzy = t.muzzy; retained = t.retained; flights = t.flights.items; sums = t.sums; sizes = t.sizes.keys }
 
 -- the lists have what they shall have of the extents, and places for so many numbers
 pub record HaveRows (l : Lists) (slots : ℕ) (rows : List Row) : Type 0 where
@@ -46,6 +53,7 @@ pub record HaveRows (l : Lists) (slots : ℕ) (rows : List Row) : Type 0 where
   pub muzzy : IsListOf ToMuzzy l.muzzy slots rows
   pub retained : IsListOf ToRetained l.retained slots rows
   pub flights : l.flights ≡ flights_in rows
+  pub sums : ArePagesOf l.sums rows
   pub sizes : IsKeyed size_key rows l.sizes
 
 -- the first and the last page of each extent have its number, and lie in chunks that have leaves
@@ -91,11 +99,6 @@ pub record KeepsExtents (t : Table) (extents : List Part) : Type 0 where
   pub table : IsRowTable t (rows_of t)
   pub parts : parts_of t ≡ extents
 
--- the extent with its number is the one that begins at the page
-pub record IsRowAt (t : Table) (first : ℕ) (row : Row) : Type 0 where
-  pub there : Contains (rows_of t) row
-  pub found : find (begins_at first) (parts_of t) ≡ Some row.part
-
 -- ---- the lists
 
 -- the lists lose the extent
@@ -104,6 +107,7 @@ pub record LosesLists (l k : Lists) (row : Row) : Type 0 where
   pub muzzy : LosesRow ToMuzzy l.muzzy k.muzzy row
   pub retained : LosesRow ToRetained l.retained k.retained row
   pub flights : k.flights ≡ cond (is_in_flight row.part.state) (filter (λ n. not (n == row.number)) l.flights) l.flights
+  pub sums : GainsPages k.sums l.sums row.part
   pub sizes : k.sizes ≡ keys_without l.sizes (size_key row)
 
 -- the lists gain the extent
@@ -112,6 +116,7 @@ pub record GainsLists (l k : Lists) (row : Row) : Type 0 where
   pub muzzy : GainsRow ToMuzzy l.muzzy k.muzzy row
   pub retained : GainsRow ToRetained l.retained k.retained row
   pub flights : k.flights ≡ l.flights ++ cond (is_in_flight row.part.state) (row.number ∷ []) []
+  pub sums : GainsPages l.sums k.sums row.part
   pub sizes : k.sizes ≡ keys_with l.sizes (size_key row)
 
 -- the indexes but the lists and the order are as they were
@@ -130,6 +135,8 @@ pub record CanEnter (t : Table) (row : Row) : Type 0 where
   pub sizes : IsSome (size_key row) → 0 < t.sizes.spare
   pub absent : IfSome (size_key row) (λ k. ¬ Contains t.sizes.keys k)
   pub flights : vec_len t.flights < vec_capacity t.flights
+  pub within : t.sums.active ≤ t.sums.all
+  pub fits : t.sums.all + row.part.span.pages < 2 ^ 64
 
 -- and so has the order
 pub record CanLower (t : Table) (row : Row) : Type 0 where

@@ -1,56 +1,52 @@
 //! An extent is taken off all indexes, put on all of them, or changed where it stands.
-ghost use Rattle.std.specs.Prelude.{◌≡◌, ◌≢◌, ◌==◌, ℕ, ◌+◌, ◌-◌, ◌/◌, ◌^◌, ◌<◌, ◌≤◌, true, false, [], ◌∷◌, ◌++◌, not, cond, count_by, length, find, filter, All, Contains, IsSome, IfSome, Some, is_some, vec_len, vec_capacity};
+ghost use Rattle.std.specs.Prelude.{◌≡◌, ◌≢◌, ◌==◌, ℕ, ◌+◌, ◌-◌, ◌/◌, ◌^◌, ◌<◌, ◌≤◌, true, false, [], ◌∷◌, ◌++◌, not, cond, count_by, length, filter, All, Contains, IsSome, IsTrue, IfSome, Some, is_some, vec_len, vec_capacity};
 ghost use Rattle.std.specs.FinMap as map_of;
 ghost use Rattle.std.specs.FinSet as set;
 ghost use Rattle.space_model.specs.Span.{IsPlaced, end_of, meets};
-ghost use Rattle.space_model.specs.Part.{begins_at, exchanged, is_listed};
+ghost use Rattle.space_model.specs.Part.{begins_at, exchanged, is_active, is_listed};
 ghost use Rattle.space_model.specs.Sound.{is_in_flight};
+ghost use Rattle.part_book.specs.Books.{IsThere};
 ghost use Rattle.part_book.specs.Leaves.{HasLeaves, HasMore, leaves_for};
-ghost use Rattle.part_book.specs.Lists.{CanList, CanUnlist, GainsRow, LosesRow};
+ghost use Rattle.part_book.specs.Lists.{CanList, CanUnlist, GainsPages, GainsRow, LosesRow};
 ghost use Rattle.part_book.specs.Rows.{ArePieces, Own, keys_with, keys_without, with_edges, without_edges};
-ghost use Rattle.part_book.specs.Tables.{CanEnter, CanLower, GainsLists, HasListRoom, HasRoomFor, IsRowAt, IsRowTable, KeepsExtents, KeepsOthers, LosesLists, lists_of, parts_of, rows_of};
+ghost use Rattle.part_book.specs.Tables.{CanEnter, CanLower, GainsLists, HasListRoom, HasRoomFor, IsRowTable, KeepsExtents, KeepsOthers, LosesLists, lists_of, parts_of, rows_of};
 
 use crate::rows::{end_of, first_key, size_key};
-use crate::table::{AgeList, Table};
+use crate::table::{AgeList, PageSums, Table};
 use ordered_set::{Key, OrderedSet};
 use page_map::PageMap;
 use space_model::{Part, Rest, Span, State};
 
 impl Table {
-    /// The number of the extent that begins at a page, and the extent.
-    pub fn extent_at(&self, first: u64) -> (u32, Part)
+    /// The number of an extent.
+    pub fn number_of(&self, part: &Part) -> u32
         requires table { IsRowTable self.now (rows_of self.now) }
-        requires begins { IsSome (find (begins_at first) (parts_of self.now)) }
-        ensures at { IsRowAt self.now first (record { number = result.0; part = result.1 }) }
-        ensures first { result.1.span.first ≡ first }
-        ensures placed { IsPlaced result.1.span }
-        ensures apart { All (λ p. meets p.span result.1.span ≡ false) (filter (λ p. not (begins_at first p)) (parts_of self.now)) }
-        ensures others { All (λ p. meets p.span result.1.span ≡ false) (filter (λ p. not (begins_at result.1.span.first p)) (parts_of self.now)) }
-        ensures leaves { leaves_for self.now.edges result.1.span ≡ 0 }
+        requires there { IsThere (parts_of self.now) part.now }
+        ensures row { Contains (rows_of self.now) (record { number = result; part = part.now }) }
+        ensures placed { IsPlaced part.now.span }
+        ensures apart { All (λ p. meets p.span part.now.span ≡ false) (filter (λ p. not (begins_at part.now.span.first p)) (parts_of self.now)) }
+        ensures leaves { leaves_for self.now.edges part.now.span ≡ 0 }
     {
-        let number = self.edges.get(first).unwrap();
-        (number, *self.part_at(number))
+        self.edges.get(part.span.first).unwrap()
     }
 
-    /// Takes the extent that begins at a page off, and gives it back.
-    pub fn take_off(&mut self, first: u64) -> Part
+    /// Takes an extent off.
+    pub fn take_off(&mut self, part: &Part)
         requires table { IsRowTable self.old (rows_of self.old) }
-        requires begins { IsSome (find (begins_at first) (parts_of self.old)) }
-        ensures kept { KeepsExtents self.new (filter (λ p. not (begins_at first p)) (parts_of self.old)) }
-        ensures part { find (begins_at first) (parts_of self.old) ≡ Some result }
-        ensures placed { IsPlaced result.span }
-        ensures apart { All (λ p. meets p.span result.span ≡ false) (parts_of self.new) }
+        requires there { IsThere (parts_of self.old) part.now }
+        ensures kept { KeepsExtents self.new (filter (λ p. not (begins_at part.now.span.first p)) (parts_of self.old)) }
+        ensures placed { IsPlaced part.now.span }
+        ensures apart { All (λ p. meets p.span part.now.span ≡ false) (parts_of self.new) }
         ensures room { (n : ℕ) → HasRoomFor self.old n → HasRoomFor self.new (n + 1) }
         ensures chunks { self.new.edges.chunks ≡ self.old.edges.chunks }
         ensures spare { self.new.edges.spare ≡ self.old.edges.spare }
-        ensures leaves { leaves_for self.new.edges result.span ≡ 0 }
+        ensures leaves { leaves_for self.new.edges part.now.span ≡ 0 }
     {
-        let (number, part) = self.extent_at(first);
-        self.lift(number, &part);
+        let number = self.number_of(part);
+        self.lift(number, part);
         clear_edges(&mut self.edges, part.span);
         self.firsts.remove(first_key(number, part.span));
         self.free.push(number).unwrap();
-        part
     }
 
     /// Puts a new extent on, behind all others.
@@ -146,6 +142,7 @@ impl Table {
         ensures order { self.new.order ≡ self.old.order }
         ensures room { (n : ℕ) → HasListRoom self.old n → HasListRoom self.new n }
     {
+        self.sums.lose(part);
         unlist(
             &mut self.dirty,
             &mut self.muzzy,
@@ -179,6 +176,7 @@ impl Table {
         ensures order { self.new.order ≡ self.old.order }
         ensures room { (n : ℕ) → HasListRoom self.old n → HasListRoom self.new n }
     {
+        self.sums.gain(part);
         list(
             &mut self.dirty,
             &mut self.muzzy,
@@ -215,6 +213,32 @@ impl AgeList {
     {
         self.ages.remove(number);
         self.pages -= pages;
+    }
+}
+
+impl PageSums {
+    // An extent comes.
+    fn gain(&mut self, part: &Part)
+        requires within { self.old.active ≤ self.old.all }
+        requires fits { self.old.all + part.now.span.pages < 2 ^ 64 }
+        ensures { GainsPages self.old self.new part.now }
+    {
+        self.all += part.span.pages;
+        if part.state.is_active() {
+            self.active += part.span.pages;
+        }
+    }
+
+    // An extent goes.
+    fn lose(&mut self, part: &Part)
+        requires all { part.now.span.pages ≤ self.old.all }
+        requires active { IsTrue (is_active part.now.state) → part.now.span.pages ≤ self.old.active }
+        ensures { GainsPages self.new self.old part.now }
+    {
+        self.all -= part.span.pages;
+        if part.state.is_active() {
+            self.active -= part.span.pages;
+        }
     }
 }
 

@@ -3,8 +3,8 @@ ghost use Rattle.std.specs.Prelude.{◌≡◌, ◌<◌, ◌≤◌, count_by, fin
 ghost use Rattle.std.specs.List.{list_any};
 ghost use Rattle.space_model.specs.Span.{has_page, meets};
 ghost use Rattle.space_model.specs.Part.{begins_at, is_flight, is_in_flight, is_listed};
-ghost use Rattle.space_model.specs.Fit.{fit_of};
-ghost use Rattle.part_book.specs.Books.{IsFirstFrom, ends_at, pages_of};
+ghost use Rattle.space_model.specs.Fit.{fit, fit_of};
+ghost use Rattle.part_book.specs.Books.{IsFirstFrom, ends_at, is_beside, pages_of};
 ghost use Rattle.part_book.specs.Rows.{IsLastBelow, is_edge, part_at};
 ghost use Rattle.part_book.specs.Tables.{IsListOf, IsRowTable, parts_of, rows_of};
 
@@ -54,6 +54,18 @@ impl Table {
             Some(part)
         } else {
             None
+        }
+    }
+
+    /// The extent right after a span, or the one right before it.
+    pub fn beside(&self, span: Span, right: bool) -> Option<&Part>
+        requires table { IsRowTable self.now (rows_of self.now) }
+        ensures { option_copied result ≡ find (is_beside span right) (parts_of self.now) }
+    {
+        if right {
+            self.look(span.first.checked_add(span.pages)?)
+        } else {
+            self.ending_at(span.first)
         }
     }
 
@@ -147,7 +159,24 @@ impl Table {
         None
     }
 
-    /// The extent that is longest among those of a rest.
+    /// The extent that serves a request: the smallest dirty one that holds the run, the lowest among equally small ones;
+    /// where no dirty one does, likewise of the muzzy ones, then of the retained ones.
+    pub fn fit(&self, pages: u64, align: u64) -> Option<Part>
+        requires table { IsRowTable self.now (rows_of self.now) }
+        requires some { 0 < pages }
+        requires aligned { 0 < align }
+        ensures { result ≡ fit pages align (parts_of self.now) }
+    {
+        if let Some(part) = self.fit_of(Rest::Dirty, pages, align) {
+            return Some(part);
+        }
+        if let Some(part) = self.fit_of(Rest::Muzzy, pages, align) {
+            return Some(part);
+        }
+        self.fit_of(Rest::Retained, pages, align)
+    }
+
+    /// The oldest extent of a rest.
     pub fn oldest(&self, rest: Rest) -> Option<Part>
         requires table { IsRowTable self.now (rows_of self.now) }
         ensures { result ≡ find (λ p. is_listed rest p.state) (parts_of self.now) }
@@ -156,7 +185,7 @@ impl Table {
         Some(*self.part_at(number))
     }
 
-    /// The extent that is longest among all.
+    /// The oldest extent of all.
     pub fn first(&self) -> Option<Part>
         requires table { IsRowTable self.now (rows_of self.now) }
         ensures { result ≡ slice_get (parts_of self.now) 0 }

@@ -27,6 +27,13 @@ pub struct AgeList {
     pub pages: u64,
 }
 
+/// The pages of all extents, and of those that serve regions.
+#[derive(Drop)]
+pub struct PageSums {
+    pub all: u64,
+    pub active: u64,
+}
+
 /// Each extent has a number, the place of the slot that has it. The rings and sets have numbers: all
 /// of them in order, those of each rest in order of age, those in flight, those by first page, those
 /// of a rest by size, and the number of each page that is the first or the last one of an extent.
@@ -37,6 +44,7 @@ pub struct Table {
     pub muzzy: AgeList,
     pub retained: AgeList,
     pub flights: Vec<u32>,
+    pub sums: PageSums,
     pub firsts: OrderedSet,
     pub sizes: OrderedSet,
     pub edges: PageMap,
@@ -56,6 +64,7 @@ impl Table {
             muzzy: no_list(alloc),
             retained: no_list(alloc),
             flights: Vec::new(alloc),
+            sums: PageSums { all: 0, active: 0 },
             firsts: OrderedSet::new(alloc),
             sizes: OrderedSet::new(alloc),
             edges: PageMap::new(alloc)?,

@@ -1,3 +1,4 @@
+pub mod Listing
 pub mod Words
 pub mod ByClass
 pub mod Tallies

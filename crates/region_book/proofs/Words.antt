@@ -5,8 +5,8 @@ pub use Rattle.std.proofs.lemmas.List.{ext_get_or, get_or-set_same, get_or-set_o
 pub use Rattle.space_model.proofs.Words.{option_or, nat_tests, length-range_with_len, sum_by-cons, sum_by-insert, sum_by-le-sum_by, size_bounds, size_at, region_bytes, region_bytes_where, regions_by_class, is_published_at, inserted, landing, region_of, regions_from, starts_at, is_held_by, is_held_by_other, held_anew, holds_at, is_given_back, staying}
 pub use Rattle.bin_book.proofs.Words.{length-map-range_with_len, get_or-map-range_with_len, Bins, BinSlab, is_all_free, with_free, free_of, dite, ℕ_discrete}
 pub use Rattle.space_model.specs.declared.parts.Region.{Region}
-pub use Rattle.large_book.proofs.Listing.{held_by}
-pub use Rattle.large_book.specs.Larges.{IsHolder, addr_of}
+pub use Rattle.region_book.proofs.Listing.{held_by}
+pub use Rattle.region_book.specs.Larges.{IsHolder, addr_of}
 pub use Rattle.list_facts.proofs.ByKey.{absent_changed, absent_filter, change_both, changed_is, drop_both, every_changed, every_landing, found_there, land_left, land_right, Landed, merged, new_apart, taken_out, distinct_new, found_alone, member_found, every_inserted}
 pub use Rattle.list_facts.proofs.Members.{every_member, found, any_from, bit, filter_same, find_closer, is_some_find}
 pub use Rattle.list_facts.specs.ByKey.{AreApart, IsRising, changed, AreDistinct, AreNew}

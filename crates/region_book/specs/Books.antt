@@ -4,7 +4,7 @@ use Rattle.std.specs.List.{AllByRecursion as Every}
 use Rattle.space_model.specs.declared.parts.Region.{Region}
 use Rattle.space_model.specs.Region.{landing}
 use Rattle.list_facts.specs.ByKey.{AreApart}
-use Rattle.large_book.specs.Larges.{addr_of}
+use Rattle.region_book.specs.Larges.{addr_of}
 use Rattle.region_book.specs.RegionLists.{IsOf, Regions}
 use Rattle.region_book.specs.Totals.{AreTotals}
 use Rattle.region_book.specs.declared.RegionBook.TheInside.{Inside}

@@ -4,7 +4,7 @@ use Rattle.std.specs.List.{list_any}
 use Rattle.size_classes.specs.Classes.{pages_at, regions_at}
 use Rattle.space_model.specs.declared.parts.Region.{Region}
 use Rattle.space_model.specs.Region.{is_published, landing, starts_at}
-use Rattle.large_book.specs.Larges.{IsHolder}
+use Rattle.region_book.specs.Larges.{IsHolder}
 use Rattle.space_model.specs.Counts.{region_bytes}
 use Rattle.bin_book.specs.Bins.{BinSlab, meets_slab}
 

@@ -1,6 +1,8 @@
 //! The regions of an arena where they stand: a large one at its first page, a small one in its slab.
 #![tactic(auto)]
 
+mod larges;
+mod numbers;
 mod totals;
 
 ghost use Rattle.std.specs.Prelude.{◌≡◌, ◌==◌, ◌&&◌, ◌+◌, ◌-◌, ◌*◌, ◌<◌, ◌≤◌, ◌^◌, ℕ, false, true, not, [], ◌∷◌, ◌++◌, filter, find, length, map, nat_le, nat_lt, option_map, slice_index_or, take, IfOk, IfSome, IsTrue, ◌↔◌, OnOk, Some, count_by, if◌then◌else◌};
@@ -11,12 +13,12 @@ ghost use Rattle.space_model.specs.Holding.{is_published_at};
 ghost use Rattle.space_model.specs.Counts.{region_bytes, region_bytes_where, regions_by_class};
 ghost use Rattle.space_model.specs.Step.{holds_at, is_given_back, staying};
 ghost use Rattle.bin_book.specs.Bins.{free_of, slab_with_out, with_slab, with_regions_out};
-ghost use Rattle.large_book.specs.Larges.{IsHolder};
+ghost use Rattle.region_book.specs.Larges.{IsHolder};
 ghost use Rattle.region_book.specs.RegionLists.{CanBeSlab, CanCome, if_published};
 ghost use Rattle.region_book.specs.Slabs.{is_last, slabs_landed, slabs_returned};
 
 use bin_book::BinBook;
-use large_book::LargeBook;
+use larges::LargeBook;
 use size_classes::{Addrs, CLASSES, PAGE_BYTES, SMALL_CLASSES};
 use space_model::Region;
 use std::alloc::{AllocError as NoMemory, Global};
@@ -168,7 +170,10 @@ impl RegionBook {
         ensures at { result ≡ find (starts_at addr) self.now.regions }
         ensures published { find (is_published_at addr) self.now.regions ≡ if_published result }
     {
-        self.larges.at(addr).or(self.bins.at(addr))
+        match self.larges.at(addr) {
+            Some(region) => Some(region),
+            None => self.bins.at(addr),
+        }
     }
 
     /// The class of the region at an address, if there is one that nobody holds.

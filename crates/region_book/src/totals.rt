@@ -1,9 +1,9 @@
 //! What the regions of an arena come to.
 
 ghost use Rattle.std.specs.Prelude.{◌≡◌, ◌<◌, ◌≤◌, ◌^◌, []};
-ghost use Rattle.list_facts.specs.Codes.{code_of};
 ghost use Rattle.region_book.specs.Totals.{AreMore, AreTotals, CanGrow, CanShrink, small_size_at};
 
+use crate::numbers::code_of;
 use size_classes::{CLASSES, SMALL_CLASSES, size_of};
 
 /// How many classes there are.
@@ -20,17 +20,6 @@ pub struct Totals {
     pub small: u64,
     pub classes: [u64; ALL_CLASSES],
     pub holders: [u64; HOLDERS],
-}
-
-/// A holder as a number: 0 for none, and else one more than the client's.
-pub fn code_of(holder: Option<u32>) -> u64
-    ensures code { result ≡ code_of holder }
-    ensures bound { result ≤ 2 ^ 32 }
-{
-    match holder {
-        Some(client) => u64::from(client) + 1,
-        None => 0,
-    }
 }
 
 /// The bytes of a region of a class among those of the small ones.

@@ -13,11 +13,11 @@ returns c =
     let regions = c.args.indexes.now.regions.regions in
     let allocated = c.bytes-allocated.ensures in
     let active : 4096 * c.active_pages-active.result ≡ bytes_where is_active parts = omega arith in
-    let dirty : 4096 * c.listed_pages-dirty.result ≡ bytes_where (is_listed ToDirty) parts = omega arith in
-    let muzzy : 4096 * c.listed_pages-muzzy.result ≡ bytes_where (is_listed ToMuzzy) parts = omega arith in
-    let retained : 4096 * c.listed_pages-retained.result ≡ bytes_where (is_listed ToRetained) parts = omega arith in
-    let mapped : 4096 * c.all_pages.result - 4096 * c.listed_pages-retained.result ≡ bytes_where is_mapped parts = omega arith in
-    let flight : 4096 * c.all_pages.result - 4096 * c.listed_pages-retained.result - (4096 * c.active_pages-active.result + 4096 * c.listed_pages-dirty.result + 4096 * c.listed_pages-muzzy.result) ≡ bytes_where is_in_flight parts = omega arith in
+    let dirty : 4096 * c.pages-dirty.result ≡ bytes_where (is_listed ToDirty) parts = omega arith in
+    let muzzy : 4096 * c.pages-muzzy.result ≡ bytes_where (is_listed ToMuzzy) parts = omega arith in
+    let retained : 4096 * c.pages-retained.result ≡ bytes_where (is_listed ToRetained) parts = omega arith in
+    let mapped : 4096 * c.all_pages.result - 4096 * c.pages-retained.result ≡ bytes_where is_mapped parts = omega arith in
+    let flight : 4096 * c.all_pages.result - 4096 * c.pages-retained.result - (4096 * c.active_pages-active.result + 4096 * c.pages-dirty.result + 4096 * c.pages-muzzy.result) ≡ bytes_where is_in_flight parts = omega arith in
     let large : c.bytes-allocated.result - c.small_bytes-small.result ≡ region_bytes_where (λ class. not (ltb class 36)) regions =
     omega (arith, allocated, c.small_bytes-small.ensures, both_bytes regions) in
     λ i. record {

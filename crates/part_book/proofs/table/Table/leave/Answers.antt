@@ -1,7 +1,13 @@
 use Rattle.part_book.proofs.Words.{arith, ToDirty, ToMuzzy, ToRetained, is_in_flight, rows_of}
-use Rattle.part_book.proofs.Additions.{one_rest, can_unlist, once}
+use Rattle.part_book.proofs.Additions.{can_lose, can_unlist, once, one_rest}
 use Rattle.part_book.proofs.Rowed.{row_placed}
 use Rattle.part_book.proofs.table.Table.leave.Goals as goal
+
+pub lose-requires-clause-all : goal.lose-requires-clause-all
+lose-requires-clause-all c = (can_lose c.args.self.now (rows_of c.args.self.now) _ c.requires.table c.requires.there).0
+
+pub lose-requires-clause-active : goal.lose-requires-clause-active
+lose-requires-clause-active c = (can_lose c.args.self.now (rows_of c.args.self.now) _ c.requires.table c.requires.there).1
 
 pub unlist-requires-clause-dirty : goal.unlist-requires-clause-dirty
 unlist-requires-clause-dirty c = can_unlist c.args.self.now (rows_of c.args.self.now) _ c.requires.table c.requires.there ToDirty _ c.requires.table.indexes.lists.dirty
