@@ -1,4 +1,5 @@
-//! Trials of the texts: lines of traces as they are read, and lines of reports as they are written. It has tests alone.
+//! Trials of the texts: lines of traces as they are read, lines of reports as they are written, and entries of journals,
+//! which are written and read. It has tests alone.
 #![tactic(auto)]
 
 #[cfg(test)]

@@ -1,4 +1,5 @@
-//! What lines of a trace say, and how a report says what came of them.
+//! What lines of a trace say, how a report says what came of them, and the texts of journals.
 
+mod journals;
 mod lines;
 mod reports;

@@ -1,5 +1,4 @@
 pub mod Words
-pub mod Digits
 pub mod Causes
 pub mod Splits
 pub mod Shapes

@@ -1,5 +1,5 @@
 -- How the shapes of a line are told apart.
-use Rattle.trace_text.proofs.Words.{◌≡◌, ℕ, ◌<◌, Bool, true, false, eqb, ltb, cond, List, [], ◌∷◌, length, take, drop, Option, Some, None, Result, Ok, Err, refl, arith, IfErr, ok_or, cond_both, and-true, pointwise, LineFault, Words, Number, ◌>>=◌, both, first_cause, is_decimal, has_leading_zero, value_in, number_in, decimal_of, hexadecimal_of, name_of, client_of, nothing_of, pointer_of, malloc_of, memalign_of, decay_time_of, control_call_of, client_verb_of, arena_verb_of, unused_verb_of, verb_of, plan_line_of, client_line_of, other_line_of, said_of}
+use Rattle.trace_text.proofs.Words.{◌≡◌, ℕ, ◌<◌, Bool, true, false, eqb, ltb, cond, List, [], ◌∷◌, length, take, drop, Result, Ok, Err, refl, arith, IfErr, cond_both, and-true, pointwise, LineFault, Words, ◌>>=◌, both, first_cause, NumberFault, NotDigits, NotNumeral, caused, decimal_in_word, decimal_of, hexadecimal_of, name_of, client_of, nothing_of, pointer_of, malloc_of, memalign_of, decay_time_of, control_call_of, client_verb_of, arena_verb_of, unused_verb_of, verb_of, plan_line_of, client_line_of, other_line_of, said_of}
 use Rattle.trace_text.specs.declared.lines.Ptr.TheVariants.{Name, At}
 
 -- a word that doesn't begin with `@` is a name
@@ -35,14 +35,14 @@ then_later : {A B : Type 0} (r : Result A LineFault) (f : A → Result B LineFau
 then_later (Ok x) f h k = k x
 then_later (Err e) f h k = h
 
-value_later : (value : Option ℕ) → HasNoEarlier (ok_or value Number)
-value_later (Some v) = tt
-value_later None = refl
+caused_later : (r : Result ℕ NumberFault) → HasNoEarlier (caused r)
+caused_later (Ok n) = tt
+caused_later (Err NotDigits) = refl
+caused_later (Err NotNumeral) = refl
 
 decimal_later : (word : List ℕ) → HasNoEarlier (decimal_of word)
-unfolding number_in decimal_of
-decimal_later word = cond_both (is_decimal word) _ _ HasNoEarlier
-    (λ _. cond_both (has_leading_zero word) _ _ HasNoEarlier (λ _. refl) (λ _. value_later (value_in 10 word))) (λ _. refl)
+unfolding decimal_of
+decimal_later word = caused_later (decimal_in_word word)
 
 client_later : (word : List ℕ) → HasNoEarlier (client_of word)
 unfolding client_of

@@ -1,16 +1,14 @@
 -- The words of the proofs.
 pub use Rattle.std.proofs.Common.{◌≡◌, ℕ, zero, suc, ◌+◌, ◌*◌, ◌^◌, ◌<◌, ◌≤◌, true, List, [], ◌∷◌, length, get_or, take, Some, None, inl, inr, refl, arith, ℤ, pos, negsuc, Bool, false, ltb, leb, eqb, cond, Result, Ok, Err, ◌⊎◌, ◌∙◌, ap, sym, ◌++◌, drop, map, append_assoc, length-append, length-drop, Option, append-nil, eq-eqb}
-pub use Rattle.std.specs.Char.{digit_value, is_ascii_digit}
 pub use Rattle.std.specs.List.{list_all, All, slice_range}
-pub use Rattle.std.specs.Str.Parse.{AllDigits, digits_value}
-pub use Rattle.std.proofs.Math.Nat.{mul-le-mul_right, pow-le-pow_right}
 pub use Rattle.std.proofs.lemmas.Bool.{and_parts, cases_lt, le-ltb, ltb-true, ltb-false, cond_both}
 pub use Rattle.std.proofs.lemmas.Bool.Decides.{nat_tests}
 pub use Rattle.std.proofs.lemmas.Grind.{pow_more, common_steps}
-pub use Rattle.std.proofs.lemmas.Int.Digits.{digits_value-lt, digits_value_more}
 pub use Rattle.std.proofs.lemmas.List.{length-take-le, drop_more, length-map, map-append, take_all}
-pub use Rattle.std.proofs.lemmas.Str.Parse.{digits_value-take-le}
-unfoldable pub use Rattle.trace_text.specs.Numbers.{is_digit_in, value_in, decimal_of, is_decimal, has_leading_zero, number_in, hexadecimal_of}
+unfoldable pub use Rattle.trace_text.specs.Numbers.{caused, decimal_of, hexadecimal_of}
+pub use Rattle.text_words.specs.Numbers.{decimal_of as decimal_in_word}
+pub use Rattle.text_words.specs.declared.faults.NumberFault.{NumberFault}
+pub use Rattle.text_words.specs.declared.faults.NumberFault.TheVariants.{NotDigits, NotNumeral}
 pub use Rattle.std.specs.Prelude.{IfOk, codes, IfErr}
 pub use Rattle.std.specs.Str.{bytes_eq}
 pub use Rattle.space_model.specs.declared.parts.Rest.{Rest}

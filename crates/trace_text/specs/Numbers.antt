@@ -1,49 +1,25 @@
 -- The numbers of a line, as its words write them.
-use Rattle.std.specs.Prelude.{◌==◌, ℕ, ◌^◌, Bool, ◌&&◌, ◌||◌, List, length, slice_index, nat_lt, nat_le, Result, Err, Option, Some, None, if◌then◌else◌}
-use Rattle.std.specs.Char.{is_ascii_digit}
-use Rattle.std.specs.Int.{is_in_range}
-use Rattle.std.specs.List.{list_all}
-use Rattle.std.specs.Option.{ok_or}
-use Rattle.std.specs.Str.Parse.{digits_value}
+use Rattle.std.specs.Prelude.{ℕ, List, Result, Ok, Err}
+use Rattle.text_words.specs.Numbers.{decimal_of as decimal_in_word, hexadecimal_of as hexadecimal_in_word}
+use Rattle.text_words.specs.declared.faults.NumberFault.{NumberFault}
+use Rattle.text_words.specs.declared.faults.NumberFault.TheVariants.{NotDigits, NotNumeral}
 use Rattle.trace_text.specs.declared.faults.LineFault.{LineFault}
 use Rattle.trace_text.specs.declared.faults.LineFault.TheVariants.{Words, Number}
 
--- a hexadecimal digit in lower case
-abbrev pub is_lower_hex : ℕ → Bool
-is_lower_hex c = is_ascii_digit c || is_in_range 97 102 c
+-- the cause of a line that has a word in place of a number
+abbrev pub cause_of : NumberFault → LineFault
+cause_of NotDigits = Words
+cause_of NotNumeral = Number
 
--- a digit in base 10, or in base 16 a hexadecimal one in lower case
-abbrev pub is_digit_in : ℕ → ℕ → Bool
-is_digit_in base c = if base == 16 then is_lower_hex c else is_ascii_digit c
-
--- a word of decimal digits, however many
-abbrev pub is_decimal : List ℕ → Bool
-is_decimal word = nat_lt 0 (length word) && list_all is_ascii_digit word
-
--- a word of 1 to 16 lower-case hexadecimal digits
-abbrev pub is_hexadecimal : List ℕ → Bool
-is_hexadecimal word = nat_lt 0 (length word) && nat_le (length word) 16 && list_all is_lower_hex word
-
--- a 0 stands before another digit
-abbrev pub has_leading_zero : List ℕ → Bool
-has_leading_zero digits = nat_lt 1 (length digits) && slice_index digits 0 == 48
-
--- the number that digits in a base stand for, where it is below 2 ^ 64
-abbrev pub value_in : ℕ → List ℕ → Option ℕ
-value_in base digits = if nat_lt (digits_value base digits) (2 ^ 64) then Some (digits_value base digits) else None
-
--- the same number, where no 0 stands before it
-unfoldable pub number_in : ℕ → List ℕ → Result ℕ LineFault
-number_in base digits = if has_leading_zero digits then Err Number else ok_or (value_in base digits) Number
-
--- the number that a word of digits in a base stands for
-abbrev pub numeral_of : ℕ → List ℕ → Result ℕ LineFault
-numeral_of base word = if nat_lt 0 (length word) && list_all (is_digit_in base) word then number_in base word else Err Words
+-- what a word writes, with the line's cause in place of the word's
+abbrev pub caused : Result ℕ NumberFault → Result ℕ LineFault
+caused (Ok n) = Ok n
+caused (Err fault) = Err (cause_of fault)
 
 -- the number that a word of decimal digits stands for
 unfoldable pub decimal_of : List ℕ → Result ℕ LineFault
-decimal_of word = if is_decimal word then number_in 10 word else Err Words
+decimal_of word = caused (decimal_in_word word)
 
--- the address that a word of hexadecimal digits stands for
+-- the address that a word of 1 to 16 lower-case hexadecimal digits stands for
 unfoldable pub hexadecimal_of : List ℕ → Result ℕ LineFault
-hexadecimal_of word = if is_hexadecimal word then number_in 16 word else Err Words
+hexadecimal_of word = caused (hexadecimal_in_word word)

@@ -1,6 +1,6 @@
-use Rattle.trace_text.proofs.Words.{◌∙◌, sym, arith, digits_value_more, take_all}
-use Rattle.trace_text.proofs.Digits.{digit_below, front_too_large, all_fit}
-use Rattle.trace_text.proofs.parts.long_value.Goals as goal
+use Rattle.text_words.proofs.Names.{◌∙◌, sym, arith, digits_value_more, take_all}
+use Rattle.text_words.proofs.Digits.{digit_below, front_too_large, all_fit}
+use Rattle.text_words.proofs.numbers.long_value.Goals as goal
 
 pub with_digit-requires : goal.with_digit-requires
 with_digit-requires c = digit_below _ _ _ c.requires (omega arith)

@@ -1,6 +1,6 @@
-use Rattle.trace_text.proofs.Words.{◌∙◌, get_or, true, sym, arith, digits_value_more, list_all_more}
-use Rattle.trace_text.proofs.Digits.{digit_in_below, room_behind}
-use Rattle.trace_text.proofs.parts.short_value.Goals as goal
+use Rattle.text_words.proofs.Names.{◌∙◌, get_or, true, sym, arith, digits_value_more, list_all_more}
+use Rattle.text_words.proofs.Digits.{digit_in_below, room_behind}
+use Rattle.text_words.proofs.numbers.short_value.Goals as goal
 
 pub overflow_mul-value : goal.overflow_mul-value
 overflow_mul-value c =

@@ -1,5 +1,5 @@
-use Rattle.trace_text.proofs.Words.{◌≡◌, true, take, list_all, digits_value, is_digit_in}
-use Rattle.trace_text.proofs.parts.short_value.Given as goal
+use Rattle.text_words.proofs.Names.{◌≡◌, true, take, list_all, digits_value, is_digit_in}
+use Rattle.text_words.proofs.numbers.short_value.Given as goal
 
 abbrev pub invariant-loop-byte : goal.invariant-loop-byte
 invariant-loop-byte l = record {

@@ -1,5 +1,5 @@
 -- Words of digits, as std says of them.
-use Rattle.trace_text.proofs.Words.{◌≡◌, ℕ, zero, suc, ◌+◌, ◌*◌, ◌^◌, ◌<◌, ◌≤◌, true, List, [], ◌∷◌, length, get_or, take, Some, None, inl, inr, refl, arith, digit_value, is_ascii_digit, list_all, AllDigits, digits_value, mul-le-mul_right, pow-le-pow_right, and_parts, cases_lt, le-ltb, nat_tests, pow_more, digits_value-lt, digits_value_more, length-take-le, digits_value-take-le, is_digit_in, value_in}
+use Rattle.text_words.proofs.Names.{◌≡◌, ℕ, zero, suc, ◌+◌, ◌*◌, ◌^◌, ◌<◌, ◌≤◌, true, List, [], ◌∷◌, length, get_or, take, Some, None, inl, inr, refl, arith, digit_value, is_ascii_digit, list_all, AllDigits, digits_value, mul-le-mul_right, pow-le-pow_right, and_parts, cases_lt, le-ltb, nat_tests, pow_more, digits_value-lt, digits_value_more, length-take-le, digits_value-take-le, is_digit_in, value_in}
 
 -- a digit in a base is below it
 pub digit_in_below : (base c : ℕ) → 10 ≤ base → is_digit_in base c ≡ true → digit_value c < base

@@ -1,0 +1,35 @@
+//! Printing entries.
+
+ghost use Rattle.std.specs.Prelude.{◌≡◌, ◌++◌, Some, OnOk};
+ghost use Rattle.journal.specs.Entries.{entry_of, entry_text};
+
+use crate::tokens::{Token, put, put_number};
+use crate::widths::{is_int, known};
+use crate::writing::put_op;
+use hook_api::Kept;
+use space_model::Entry;
+use std::alloc::AllocError as NoMemory;
+
+/// Puts the text of an entry of an arena's journal behind what is there: one line, without its newline. After an `Err`,
+/// which is want of memory, a part of it may stand there.
+#[tactic(auto)]
+pub fn print(index: u32, kept: &Kept, out: &mut Vec<u8>) -> Result<(), NoMemory>
+    ensures text { OnOk result (out.new.items ≡ out.old.items ++ entry_text index kept.now.entry) }
+    ensures again { entry_of (entry_text index kept.now.entry) ≡ Some (index, kept.now.entry) }
+{
+    let entry = kept.entry();
+    reads_again(index, entry);
+    put_number(out, u64::from(index))?;
+    put(out, Token::Number(u64::from(entry.client)))?;
+    put_op(out, &entry.op)
+}
+
+/// The text of an entry is read as this entry again.
+#[tactic(auto, using(crate::proofs::EntryLaws::entry_again))]
+fn reads_again(index: u32, entry: &Entry)
+    ensures { entry_of (entry_text index entry.now) ≡ Some (index, entry.now) }
+{
+    is_int(index);
+    is_int(entry.client);
+    known(&entry.op);
+}
