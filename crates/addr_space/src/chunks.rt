@@ -8,6 +8,9 @@ use space_model::{CHUNK_PAGES, CHUNKS, Span};
 use std::alloc::{AllocError as NoMemory, Global};
 use std::marker::Model;
 
+/// The first page above the last chunk.
+pub(crate) const END: u64 = (CHUNKS + 1) * CHUNK_PAGES;
+
 /// A number for each chunk: how many of its pages are placed. There is no chunk 0.
 ///
 /// No chunk below `low` is free, so a search begins there.
@@ -138,10 +141,9 @@ impl Chunks {
 
     /// Takes the pages of a span off, as far as they are placed.
     pub(crate) fn take_off(&mut self, span: Span)
-        requires { end_of span ≤ pages_end }
         ensures { IsOff self.old span self.new }
     {
-        let end = span.first + span.pages;
+        let end = span.first.saturating_add(span.pages).min(END);
         for chunk in span.first / CHUNK_PAGES..end.div_ceil(CHUNK_PAGES) {
             let pages = overlap(span.first, end, chunk) as u16;
             self.placed[chunk as usize] = self.placed[chunk as usize].saturating_sub(pages);

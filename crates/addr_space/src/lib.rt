@@ -6,8 +6,6 @@ mod lying;
 mod shared;
 mod space;
 mod telling;
-#[cfg(test)]
-mod tests;
 
 pub use lying::LyingHooks;
 pub use shared::SharedSpace;

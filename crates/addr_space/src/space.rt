@@ -7,14 +7,11 @@ ghost use Rattle.space_model.specs.Span.{pages_end};
 ghost use Rattle.addr_space.specs.Chunks.{FitNowhere, IsBlank, IsFreeSpan, IsLowestFit, IsOff, IsOn, IsPlacedSpan};
 ghost use Rattle.addr_space.specs.Hooks.{placing_account};
 
-use crate::chunks::Chunks;
+use crate::chunks::{Chunks, END};
 use hook_api::{ExtentHooks, Placed, Said};
-use space_model::{Answer, Ask, CHUNK_PAGES, CHUNKS, Span};
+use space_model::{Answer, Ask, CHUNK_PAGES, Span};
 use std::alloc::{AllocError as NoMemory, Global};
 use std::marker::Model;
-
-/// The first page above the last chunk.
-const END: u64 = (CHUNKS + 1) * CHUNK_PAGES;
 
 /// An honest box over the pages of the space. It places a range in the lowest chunks that are free, committed and
 /// zeroed, or at the page that is wished. It takes ranges back, accepts everything else, and tells nothing.
@@ -133,13 +130,10 @@ impl ExtentHooks for AddrSpace {
 
     fn destroy(&mut self, span: Span, _committed: bool)
         ensures hook { HookCall (placing_account self.old) (Ask.Destroy span _committed) Answer.Done (placing_account self.new) }
-        ensures off { span.first + span.pages ≤ pages_end → IsOff self.old.placed span self.new.placed }
-        ensures stays { pages_end < span.first + span.pages → self.new.placed ≡ self.old.placed }
+        ensures off { IsOff self.old.placed span self.new.placed }
         ensures refusals { self.new.refusals ≡ self.old.refusals }
     {
-        if ends_inside(span) {
-            self.chunks.take_off(span);
-        }
+        self.chunks.take_off(span);
     }
 
     fn commit(&mut self, _span: Span) -> Said

@@ -75,6 +75,7 @@ impl ExtentHooks for TellingHooks {
         ensures lowest { at ≡ None → IfSome result (λ placed. IsLowestFit self.old.inner.placed pages (max align 1) placed.first) }
         ensures nowhere { at ≡ None → IfNone result (FitNowhere self.old.inner.placed pages (max align 1)) }
         ensures wished { (first : ℕ) → at ≡ Some first → IsSome result ↔ IsFreeSpan self.old.inner.placed (record { first = first; pages = pages }) }
+        ensures blank { IfSome result (λ placed. (placed.committed ≡ true) × (placed.zeroed ≡ true)) }
         ensures placed { IfSome result (λ placed. IsOn self.old.inner.placed (record { first = placed.first; pages = pages }) self.new.inner.placed) }
         ensures stays { IfNone result (self.new.inner.placed ≡ self.old.inner.placed) }
     {
@@ -105,8 +106,7 @@ impl ExtentHooks for TellingHooks {
     fn destroy(&mut self, span: Span, committed: bool)
         ensures hook { HookCall (telling_account self.old) (Ask.Destroy span committed) Answer.Done (telling_account self.new) }
         ensures told { ToldOne self.old (record { ask = Ask.Destroy span committed; answer = Answer.Done }) self.new }
-        ensures off { span.first + span.pages ≤ pages_end → IsOff self.old.inner.placed span self.new.inner.placed }
-        ensures stays { pages_end < span.first + span.pages → self.new.inner.placed ≡ self.old.inner.placed }
+        ensures off { IsOff self.old.inner.placed span self.new.inner.placed }
     {
         self.inner.destroy(span, committed);
         self.note(Ask::Destroy { span, committed }, Answer::Done);

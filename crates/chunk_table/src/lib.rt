@@ -7,8 +7,6 @@ mod laws;
 mod makes;
 mod rule;
 mod table;
-#[cfg(test)]
-mod tests;
 mod view;
 
 pub use claims::Claim;

@@ -52,6 +52,7 @@ impl<R: Read> Source for ReadEdge<R> {
 pub struct WriteEdge<W> {
     inner: W,
     faults: u64,
+    waits: bool,
 }
 
 impl<W: Write> WriteEdge<W> {
@@ -59,8 +60,13 @@ impl<W: Write> WriteEdge<W> {
     pub fn new(inner: W) -> WriteEdge<W>
         ensures held { ⟦<WriteEdge<W> as Sink>⟧.held result ≡ W.contents inner }
         ensures faults { ⟦<WriteEdge<W> as Sink>⟧.faults result ≡ 0 }
+        ensures waits { ⟦<WriteEdge<W> as Sink>⟧.waits result ≡ false }
     {
-        WriteEdge { inner, faults: 0 }
+        WriteEdge {
+            inner,
+            faults: 0,
+            waits: false,
+        }
     }
 }
 
@@ -68,6 +74,8 @@ impl<W: Write> Sink for WriteEdge<W> {
     ghost held = { λ edge. W.contents edge.inner };
 
     ghost faults = { λ edge. edge.faults };
+
+    ghost waits = { λ edge. edge.waits };
 
     fn write(&mut self, piece: &[u8]) -> Result<usize, Failed> {
         let Ok(n) = self.inner.write(piece) else {
@@ -77,6 +85,7 @@ impl<W: Write> Sink for WriteEdge<W> {
         if n == 0 && !piece.is_empty() {
             count_fault(&mut self.faults);
         }
+        self.waits |= n > 0;
         Ok(n)
     }
 
@@ -85,6 +94,7 @@ impl<W: Write> Sink for WriteEdge<W> {
             count_fault(&mut self.faults);
             return Err(Failed);
         }
+        self.waits = false;
         Ok(())
     }
 }

@@ -10,6 +10,3 @@ pub use edges::{ReadEdge, WriteEdge};
 pub use memory::{MemSink, MemSource};
 pub use traits::{Failed, Sink, Source};
 pub use whole::write_all;
-
-#[cfg(test)]
-mod tests;

@@ -13,6 +13,7 @@ use std::marker::Model;
 pub struct MemSource {
     bytes: Vec<u8>,
     at: usize,
+    most: u64,
     fail: Vec<u64>,
     calls: u64,
     faults: u64,
@@ -20,21 +21,22 @@ pub struct MemSource {
 }
 
 impl Model for MemSource {
-    ghost use Rattle.std.specs.Prelude.{◌≡◌, ◌≤◌, drop, vec_len, true};
+    ghost use Rattle.std.specs.Prelude.{◌≡◌, ◌≤◌, ◌<◌, drop, vec_len, true};
     ghost use Rattle.edge_io.specs.Planned.{PlannedSource};
 
     ghost Value = { PlannedSource };
 
     ghost view = { λ s. record {
       left = drop s.at s.bytes.items;
+      most = s.most;
       fail = s.fail.items;
       calls = s.calls;
       faults = s.faults;
       ended = s.ended;
     } };
 
-    // Where the end was met, nothing is left.
-    ghost invariant = { λ s. (s.at ≤ vec_len s.bytes) × (s.ended ≡ true → s.at ≡ vec_len s.bytes) };
+    // A read may give a byte, and where the end was met, nothing is left.
+    ghost invariant = { λ s. (0 < s.most) × (s.at ≤ vec_len s.bytes) × (s.ended ≡ true → s.at ≡ vec_len s.bytes) };
 }
 
 impl MemSource {
@@ -42,6 +44,20 @@ impl MemSource {
     /// else. The first call of `read` has the ordinal 1.
     pub fn new(bytes: Vec<u8>, fail: Vec<u64>) -> MemSource
         ensures left { result.left ≡ bytes.items }
+        ensures most { result.most ≡ 2 ^ 64 - 1 }
+        ensures fail { result.fail ≡ fail.items }
+        ensures calls { result.calls ≡ 0 }
+        ensures faults { result.faults ≡ 0 }
+        ensures ended { result.ended ≡ false }
+    {
+        MemSource::pieces(bytes, fail, u64::MAX)
+    }
+
+    /// The same, which gives at most so many bytes at a read, one at least.
+    pub fn pieces(bytes: Vec<u8>, fail: Vec<u64>, most: u64) -> MemSource
+        requires { 1 ≤ most }
+        ensures left { result.left ≡ bytes.items }
+        ensures most { result.most ≡ most }
         ensures fail { result.fail ≡ fail.items }
         ensures calls { result.calls ≡ 0 }
         ensures faults { result.faults ≡ 0 }
@@ -50,6 +66,7 @@ impl MemSource {
         MemSource {
             bytes,
             at: 0,
+            most,
             fail,
             calls: 0,
             faults: 0,
@@ -76,7 +93,8 @@ impl Source for MemSource {
     fn read(&mut self, buf: &mut [u8]) -> Result<usize, Failed>
         ensures bound { IfOk result (λ n. n ≤ length buf.new) }
         ensures moved { IfOk result (λ n. self.old.left ≡ take n buf.new ++ self.new.left) }
-        ensures count { IfOk result (λ n. n ≡ min (length buf.old) (length self.old.left)) }
+        ensures count { IfOk result (λ n. n ≡ min (min self.old.most (length buf.old)) (length self.old.left)) }
+        ensures end { IfOk result (λ n. n ≡ 0 → 0 < length buf.old → self.new.left ≡ []) }
         ensures mark { self.new.ended ≡ (self.old.ended || is_end result (length buf.old)) }
         ensures planned { IsErr result ↔ FailsNext self.old.fail self.old.calls }
         ensures failed { OnErr result (Rose self.old.faults self.new.faults) }
@@ -85,6 +103,7 @@ impl Source for MemSource {
         ensures by_one { self.new.faults ≤ self.old.faults + 1 }
         ensures counts { self.old.faults ≤ self.new.faults }
         ensures plan { self.new.fail ≡ self.old.fail }
+        ensures most { self.new.most ≡ self.old.most }
         ensures calls { self.new.calls ≡ min (self.old.calls + 1) (2 ^ 64 - 1) }
     {
         if is_planned(&self.fail, &mut self.calls) {
@@ -92,7 +111,7 @@ impl Source for MemSource {
             return Err(Failed);
         }
         let rest = &self.bytes[self.at..];
-        let n = rest.len().min(buf.len());
+        let n = rest.len().min(room_in(self.most, buf.len()));
         buf[..n].copy_from_slice(&rest[..n]);
         self.at += n;
         if n == 0 && !buf.is_empty() {
@@ -100,6 +119,13 @@ impl Source for MemSource {
         }
         Ok(n)
     }
+}
+
+// How many bytes a call may move at most: so many at a call, and so many that there is room for.
+fn room_in(most: u64, room: usize) -> usize
+    ensures { result ≡ min most room }
+{
+    (room as u64).min(most) as usize
 }
 
 // Counts a call, and tells whether it is one that fails.
@@ -118,22 +144,30 @@ fn is_planned(fail: &[u64], calls: &mut u64) -> bool
 #[derive(Drop)]
 pub struct MemSink {
     bytes: Vec<u8>,
+    most: u64,
     fail: Vec<u64>,
     calls: u64,
     faults: u64,
+    waits: bool,
 }
 
 impl Model for MemSink {
+    ghost use Rattle.std.specs.Prelude.{◌<◌};
     ghost use Rattle.edge_io.specs.Planned.{PlannedSink};
 
     ghost Value = { PlannedSink };
 
     ghost view = { λ s. record {
       held = s.bytes.items;
+      most = s.most;
       fail = s.fail.items;
       calls = s.calls;
       faults = s.faults;
+      waits = s.waits;
     } };
+
+    // A write may take a byte.
+    ghost invariant = { λ s. 0 < s.most };
 }
 
 impl MemSink {
@@ -141,15 +175,32 @@ impl MemSink {
     /// has the ordinal 1. It may fail at another one too, for want of memory.
     pub fn new(alloc: Global, fail: Vec<u64>) -> MemSink
         ensures held { result.held ≡ [] }
+        ensures most { result.most ≡ 2 ^ 64 - 1 }
         ensures fail { result.fail ≡ fail.items }
         ensures calls { result.calls ≡ 0 }
         ensures faults { result.faults ≡ 0 }
+        ensures waits { result.waits ≡ false }
+    {
+        MemSink::pieces(alloc, fail, u64::MAX)
+    }
+
+    /// The same, which takes at most so many bytes at a write, one at least.
+    pub fn pieces(alloc: Global, fail: Vec<u64>, most: u64) -> MemSink
+        requires { 1 ≤ most }
+        ensures held { result.held ≡ [] }
+        ensures most { result.most ≡ most }
+        ensures fail { result.fail ≡ fail.items }
+        ensures calls { result.calls ≡ 0 }
+        ensures faults { result.faults ≡ 0 }
+        ensures waits { result.waits ≡ false }
     {
         MemSink {
             bytes: Vec::new(alloc),
+            most,
             fail,
             calls: 0,
             faults: 0,
+            waits: false,
         }
     }
 
@@ -166,29 +217,38 @@ impl Sink for MemSink {
 
     ghost faults = { λ s. s.faults };
 
+    ghost waits = { λ s. s.waits };
+
     fn write(&mut self, piece: &[u8]) -> Result<usize, Failed>
-        ensures count { IfOk result (λ n. n ≡ length piece.now) }
-        ensures appended { OnOk result (self.new.held ≡ self.old.held ++ piece.now) }
+        ensures count { IfOk result (λ n. n ≡ min self.old.most (length piece.now)) }
+        ensures some { IfOk result (λ n. 0 < length piece.now → 0 < n) }
+        ensures appended { IfOk result (λ n. self.new.held ≡ self.old.held ++ take n piece.now) }
         ensures planned { FailsNext self.old.fail self.old.calls → IsErr result }
         ensures failed { OnErr result (Rose self.old.faults self.new.faults) }
         ensures kept { OnErr result (self.new.held ≡ self.old.held) }
         ensures unfailed { OnOk result (self.new.faults ≡ self.old.faults) }
+        ensures waiting { IfOk result (λ n. 0 < n → self.new.waits ≡ true) }
+        ensures still_waiting { self.old.waits ≡ true → self.new.waits ≡ true }
         ensures by_one { self.new.faults ≤ self.old.faults + 1 }
         ensures counts { self.old.faults ≤ self.new.faults }
         ensures plan { self.new.fail ≡ self.old.fail }
+        ensures most { self.new.most ≡ self.old.most }
         ensures calls { self.new.calls ≡ min (self.old.calls + 1) (2 ^ 64 - 1) }
     {
-        if is_planned(&self.fail, &mut self.calls) || self.bytes.extend_from_slice(piece).is_err() {
+        let taken = &piece[..room_in(self.most, piece.len())];
+        if is_planned(&self.fail, &mut self.calls) || self.bytes.extend_from_slice(taken).is_err() {
             count_fault(&mut self.faults);
             return Err(Failed);
         }
-        Ok(piece.len())
+        self.waits |= !taken.is_empty();
+        Ok(taken.len())
     }
 
     fn flush(&mut self) -> Result<(), Failed>
-        ensures same { self.new ≡ self.old }
+        ensures same { self.new ≡ record self.old { waits = false } }
         ensures ok { IsOk result }
     {
+        self.waits = false;
         Ok(())
     }
 }

@@ -1,5 +1,5 @@
 //! What a source and a sink promise.
-ghost use Rattle.std.specs.Prelude.{◌≡◌, ℕ, ◌+◌, ◌<◌, ◌≤◌, ◌⊎◌, ◌||◌, List, length, take, Option, Bool, IfOk, OnOk, OnErr};
+ghost use Rattle.std.specs.Prelude.{◌≡◌, ℕ, ◌+◌, ◌<◌, ◌≤◌, ◌⊎◌, ◌||◌, List, length, take, Option, Bool, true, false, IfOk, OnOk, OnErr};
 ghost use Rattle.edge_io.specs.Bytes.{Consumes, Appends, Keeps, IsAtEnd, Rose, is_end};
 
 /// A read or a write failed.
@@ -42,6 +42,9 @@ pub trait Sink {
     /// greatest `u64`.
     ghost faults: { Self → ℕ };
 
+    /// Whether bytes were written behind the last flush that didn't fail, so that some may wait in the sink.
+    ghost waits: { Self → Bool };
+
     /// Appends the first bytes of the piece, and gives how many they are.
     ///
     /// `Failed`, and 0 of a piece that isn't empty, come only where the count of faults rose.
@@ -52,16 +55,20 @@ pub trait Sink {
         ensures failed { OnErr result (Rose (faults self.old) (faults self.new)) }
         ensures kept { OnErr result (Keeps (held self.old) (held self.new)) }
         ensures unfailed { IfOk result (λ n. 0 < n ⊎ length piece.now ≡ 0 → faults self.new ≡ faults self.old) }
+        ensures waiting { IfOk result (λ n. 0 < n → waits self.new ≡ true) }
+        ensures still_waiting { waits self.old ≡ true → waits self.new ≡ true }
         ensures by_one { faults self.new ≤ faults self.old + 1 }
         ensures counts { faults self.old ≤ faults self.new };
 
-    /// Hands on what waits in the sink. What it holds stays, whether or not it waits.
+    /// Hands on what waits in the sink, so that nothing waits behind an `Ok`. What it holds stays, whether or not it waits.
     ///
     /// `Failed` comes only where the count of faults rose.
     fn flush(&mut self) -> Result<(), Failed>
         ensures kept { Keeps (held self.old) (held self.new) }
         ensures failed { OnErr result (Rose (faults self.old) (faults self.new)) }
         ensures unfailed { OnOk result (faults self.new ≡ faults self.old) }
+        ensures handed_on { OnOk result (waits self.new ≡ false) }
+        ensures still_waiting { OnErr result (waits self.old ≡ true → waits self.new ≡ true) }
         ensures by_one { faults self.new ≤ faults self.old + 1 }
         ensures counts { faults self.old ≤ faults self.new };
 }

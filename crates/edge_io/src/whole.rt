@@ -1,5 +1,5 @@
 //! A whole text, written by as many writes as it takes.
-ghost use Rattle.std.specs.Prelude.{◌≤◌, OnOk, OnErr};
+ghost use Rattle.std.specs.Prelude.{◌≡◌, ◌≤◌, OnOk, OnErr};
 ghost use Rattle.edge_io.specs.Bytes.{Appends, AppendsPrefix, Rose};
 
 use crate::{Failed, Sink};
@@ -11,6 +11,7 @@ pub fn write_all<K: Sink>(sink: &mut K, text: &[u8]) -> Result<(), Failed>
     ensures ok { OnOk result (Appends (K.held sink.old) (K.held sink.new) text.now) }
     ensures err { OnErr result (AppendsPrefix (K.held sink.old) (K.held sink.new) text.now) }
     ensures failed { OnErr result (Rose (K.faults sink.old) (K.faults sink.new)) }
+    ensures unfailed { OnOk result (K.faults sink.new ≡ K.faults sink.old) }
     ensures counts { K.faults sink.old ≤ K.faults sink.new }
 {
     let mut at = 0;

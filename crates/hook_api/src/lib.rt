@@ -45,6 +45,3 @@ pub use rising::RisingHooks;
 pub use seat::{AskSeat, AskSeats};
 pub use shared::SharedShelf;
 pub use shelf::HookShelf;
-
-#[cfg(test)]
-mod tests;

@@ -9,6 +9,3 @@ pub use classes::{
     CACHED_CLASSES, CLASSES, MAX_SIZE, PAGE_BYTES, SMALL_CLASSES, SizeFault, aligned_class,
     class_of, class_pages, size_of, slab_regions, slots,
 };
-
-#[cfg(test)]
-mod tests;

@@ -6,8 +6,6 @@ mod caches;
 mod desks;
 mod laws;
 mod stacks;
-#[cfg(test)]
-mod tests;
 
 pub use batches::Batch;
 pub use caches::Cache;

@@ -7,8 +7,6 @@ mod lock;
 mod machine;
 mod makes;
 mod rule;
-#[cfg(test)]
-mod tests;
 mod turns;
 mod view;
 

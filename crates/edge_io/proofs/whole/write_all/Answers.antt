@@ -10,5 +10,5 @@ loop-at-preserved g c = record {
       (Appends-trans _ _ _ _ _ c.loop-at.invariant.gained
       (rw (rest_of c.args.text.now c.loop-at.at) at c.in_ok-n.ensures.appended));
   within = omega (arith, c.in_ok-n.ensures.bound);
-  counts = omega (arith, c.in_ok-n.ensures.counts);
+  counts = grind (arith, c.in_ok-n);
 }

@@ -1,2 +1,0 @@
-mod adder;
-mod quota;
