@@ -1,1 +1,3 @@
 mod OneWord
+mod Lists
+mod Numbers

@@ -20,3 +20,11 @@ one_text f xs x seen text r some few first is tested =
     let item = is ∙ ap f first in
     let decides = bytes_eq-Decides seen text in
     (λ h. one ∙ ap (λ t. t ∷ []) (sym item ∙ decides.0 (sym tested ∙ h)), λ h. tested ∙ decides.1 (item ∙ ap (λ ts. get_or ts 0 []) (sym one ∙ h)))
+
+-- a list of three elements is mapped to a list of three
+pub mapped_three : {A B : Type 0} (f : A → B) (xs : List A) (d : A) → 3 ≤ length xs → length xs < 4 → map f xs ≡ f (get_or xs 0 d) ∷ f (get_or xs 1 d) ∷ f (get_or xs 2 d) ∷ []
+mapped_three f [] d some few = absurd (omega (arith, some))
+mapped_three f (x ∷ []) d some few = absurd (omega (arith, some))
+mapped_three f (x ∷ y ∷ []) d some few = absurd (omega (arith, some))
+mapped_three f (x ∷ y ∷ z ∷ []) d some few = λ i. f x ∷ f y ∷ f z ∷ []
+mapped_three f (x ∷ y ∷ z ∷ w ∷ rest) d some few = absurd (omega (arith, few))

@@ -1,27 +1,35 @@
--- The words that the program is given, as texts, and what it answers to words that are in no list.
-use Rattle.std.specs.Prelude.{◌≡◌, ◌≢◌, ◌⊎◌, ℕ, List, [], ◌∷◌, Option, codes}
-use Rattle.edge_io.specs.Bytes.{Appends, AppendsPrefix, Rose}
-use Rattle.report_text.specs.Lines.{usage_line}
+-- The words that the program is given, as texts.
+use Rattle.std.specs.Prelude.{◌≡◌, ◌≢◌, ℕ, ◌^◌, ◌<◌, ◌≤◌, List, [], ◌∷◌, codes}
+use Rattle.std.specs.Fmt.{decimal}
+use Rattle.jarena.specs.declared.words.Asked.{Asked}
+use Rattle.jarena.specs.declared.words.Asked.TheVariants.{Nothing, Replay, Soak}
 
--- the one list of words that is built
+-- the words of a replay
 abbrev pub replay_words : List (List ℕ)
 replay_words = codes "replay" ∷ []
+
+-- the words of a soak: its start and how many calls, each as a number is printed
+abbrev pub soak_words : ℕ → ℕ → List (List ℕ)
+soak_words start calls = codes "soak" ∷ decimal start ∷ decimal calls ∷ []
 
 -- the words are exactly `replay`
 abbrev pub IsReplay : List (List ℕ) → Type 0
 IsReplay words = words ≡ replay_words
 
+-- the words are exactly `soak START CALLS`, with a start below 2^64 and at most 1000000 calls
+abbrev pub IsSoak : List (List ℕ) → ℕ → ℕ → Type 0
+IsSoak words start calls = (words ≡ soak_words start calls) × (start < 2 ^ 64) × (calls ≤ 1000000)
+
+-- they are so for no start and no number of calls
+abbrev pub IsNoSoak : List (List ℕ) → Type 0
+IsNoSoak words = (start : ℕ) (calls : ℕ) → IsSoak words start calls → ⊥
+
 -- the words are in no list that is built
 abbrev pub IsInNoList : List (List ℕ) → Type 0
-IsInNoList words = words ≢ replay_words
+IsInNoList words = (words ≢ replay_words) × IsNoSoak words
 
--- what is told of a sink: the bytes that it holds, where it tells them, and its count of faults
-pub record SinkFacts : Type 0 where
-  pub held : Option (List ℕ)
-  pub faults : ℕ
-
--- status 2 and the whole usage line; or status 5, where the sink's count of faults rose, and a beginning of that line
-abbrev pub TellsUsage : ℕ → SinkFacts → SinkFacts → Type 0
-TellsUsage status old new =
-    ((status ≡ 2) × Appends old.held new.held usage_line) ⊎
-    ((status ≡ 5) × Rose old.faults new.faults × AppendsPrefix old.held new.held usage_line)
+-- the words ask for this
+abbrev pub IsAsked : List (List ℕ) → Asked → Type 0
+IsAsked words Nothing = IsInNoList words
+IsAsked words Replay = IsReplay words
+IsAsked words (Soak start calls) = IsSoak words start calls

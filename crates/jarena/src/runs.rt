@@ -1,17 +1,15 @@
 //! The top call: all that the program does, over a source, a sink and a shelf of hooks.
 
-ghost use Rattle.std.specs.Prelude.{◌≡◌, true, List, [], map, string_bytes};
-ghost use Rattle.hook_api.specs.declared.kept.Journal.{Journal};
-ghost use Rattle.jarena.specs.Words.{TellsUsage, IsReplay, IsInNoList};
-ghost use Rattle.edge_io.specs.Bytes.{Rose};
-ghost use Rattle.replay_run.specs.Replays.{HandsOut, ReplayOf};
-ghost use Rattle.replay_run.specs.Stops.{IsReplayStatus};
+ghost use Rattle.std.specs.Prelude.{◌≡◌, ◌⊎◌, ℕ, map, string_bytes};
+ghost use Rattle.jarena.specs.Runs.{OnlyTellsUsage, Replays, Soaks, run_facts, sink_facts, source_facts};
+ghost use Rattle.jarena.specs.Words.{IsInNoList, IsReplay, IsSoak};
 
-use crate::words::{is_replay, tell_usage};
+use crate::words::{Asked, asked_by, tell_usage};
 use edge_io::{Sink, Source};
 use hook_api::{Askeds, ExtentHooks, HookShelf, Journals};
-use replay_run::replay;
+use replay_run::{Replayed, replay, soak};
 use std::alloc::Global;
+use trace_soak::Lines;
 
 /// What a run of the program leaves.
 #[derive(Drop)]
@@ -26,10 +24,26 @@ pub struct Outcome<H: ExtentHooks> {
     pub heard: Askeds,
 }
 
+/// The outcome of a run that carried lines out.
+fn outcome_of<H: ExtentHooks>(replayed: Replayed<H>) -> Outcome<H>
+    ensures status { result.status ≡ replayed.status }
+    ensures shelf { result.shelf ≡ replayed.shelf }
+    ensures journals { result.journals ≡ replayed.journals }
+    ensures heard { result.heard ≡ replayed.heard }
+{
+    Outcome {
+        status: replayed.status,
+        shelf: replayed.shelf,
+        journals: replayed.journals,
+        heard: replayed.heard,
+    }
+}
+
 /// Does all that the program does, given its words without its own name.
 ///
-/// Where the words are exactly `replay`, it carries out the lines of the source and prints what they answer. Where they
-/// are in no list, it writes the usage line and gives status 2, or 5 where the sink failed, and does nothing else.
+/// Where the words are exactly `replay`, it carries out the lines of the source and prints what they answer. Where they are
+/// exactly `soak START CALLS`, it carries out lines that are drawn, and prints the counts at their end. Where they are in no
+/// list, it writes the usage line and gives status 2, or 5 where the sink failed, and does nothing else.
 pub fn run<S: Source, K: Sink, H: ExtentHooks>(
     alloc: Global,
     words: &[String],
@@ -37,33 +51,27 @@ pub fn run<S: Source, K: Sink, H: ExtentHooks>(
     sink: &mut K,
     shelf: HookShelf<H>,
 ) -> Outcome<H>
-    ensures usage { IsInNoList (map string_bytes words.now) → TellsUsage result.status (record { held = K.held sink.old; faults = K.faults sink.old }) (record { held = K.held sink.new; faults = K.faults sink.new }) }
+    ensures usage { IsInNoList (map string_bytes words.now) → OnlyTellsUsage (run_facts result.status result.shelf result.journals result.heard) shelf
+        (sink_facts (K.held sink.old) (K.faults sink.old)) (sink_facts (K.held sink.new) (K.faults sink.new)) }
     ensures status_2 { result.status ≡ 2 → IsInNoList (map string_bytes words.now) }
-    ensures unread { IsInNoList (map string_bytes words.now) → source.new ≡ source.old }
-    ensures unasked { IsInNoList (map string_bytes words.now) → result.heard ≡ [] }
-    ensures no_journals { IsInNoList (map string_bytes words.now) → result.journals ≡ [] }
-    ensures replay { IsReplay (map string_bytes words.now) → (journals : List Journal) × ReplayOf result.status journals result.heard shelf
-        result.shelf (S.ended source.new) (S.left source.old) (S.left source.new) (K.held sink.old) (K.held sink.new)
-        × HandsOut result.status journals result.journals }
-    ensures known { IsReplay (map string_bytes words.now) → IsReplayStatus result.status }
-    ensures read_fault { IsReplay (map string_bytes words.now) → result.status ≡ 4 → Rose (S.faults source.old) (S.faults source.new) }
-    ensures write_fault { IsReplay (map string_bytes words.now) → result.status ≡ 5 → Rose (K.faults sink.old) (K.faults sink.new) }
-    ensures ended { IsReplay (map string_bytes words.now) → result.status ≡ 0 → S.ended source.new ≡ true }
-    ensures same_shelf { IsInNoList (map string_bytes words.now) → result.shelf ≡ shelf }
+    ensures unread { IsReplay (map string_bytes words.now) ⊎ (source.new ≡ source.old) }
+    ensures replay { IsReplay (map string_bytes words.now) → Replays (run_facts result.status result.shelf result.journals result.heard) shelf
+        (source_facts (S.left source.old) (S.ended source.old) (S.faults source.old)) (source_facts (S.left source.new) (S.ended source.new) (S.faults source.new))
+        (sink_facts (K.held sink.old) (K.faults sink.old)) (sink_facts (K.held sink.new) (K.faults sink.new)) }
+    ensures soak { (start : ℕ) (calls : ℕ) → IsSoak (map string_bytes words.now) start calls
+        → Soaks start calls (run_facts result.status result.shelf result.journals result.heard) shelf
+        (sink_facts (K.held sink.old) (K.faults sink.old)) (sink_facts (K.held sink.new) (K.faults sink.new)) }
 {
-    if !is_replay(words) {
-        return Outcome {
+    match asked_by(words) {
+        Asked::Replay => outcome_of(replay(alloc, source, sink, shelf)),
+        Asked::Soak { start, calls } => {
+            outcome_of(soak(alloc, Lines::new(start, calls), sink, shelf))
+        }
+        Asked::Nothing => Outcome {
             status: tell_usage(sink),
             shelf,
             journals: Journals::none(alloc),
             heard: Askeds::new(alloc),
-        };
-    }
-    let replayed = replay(alloc, source, sink, shelf);
-    Outcome {
-        status: replayed.status,
-        shelf: replayed.shelf,
-        journals: replayed.journals,
-        heard: replayed.heard,
+        },
     }
 }

@@ -1,14 +1,44 @@
 //! The words that the program is given.
 
-ghost use Rattle.std.specs.Prelude.{◌↔◌, IsTrue, map, string_bytes};
-ghost use Rattle.jarena.specs.Words.{TellsUsage, IsReplay};
+ghost use Rattle.std.specs.Prelude.{◌≡◌, ◌≢◌, ◌∷◌, [], ℕ, ◌^◌, ◌<◌, ◌↔◌, IfNone, IfSome, IsTrue, MatchOption, map, string_bytes};
+ghost use Rattle.std.specs.Fmt.{decimal};
+ghost use Rattle.jarena.specs.Runs.{TellsUsage, sink_facts};
+ghost use Rattle.jarena.specs.Words.{IsAsked, IsNoSoak, IsReplay, IsSoak};
 
 use crate::status::{BAD_WORDS, SINK_FAILED};
 use edge_io::{Failed, Sink, write_all};
+use itoa::Buffer;
 use report_text::usage_line;
 
+/// How many calls a soak makes at most.
+const MOST_CALLS: u64 = 1_000_000;
+
+/// What the words ask for.
+#[derive(Clone, Copy, Debug, PartialEq, Eq)]
+pub(crate) enum Asked {
+    /// They are in no list.
+    Nothing,
+    /// A replay of the input.
+    Replay,
+    /// A soak of so many calls, drawn from a start.
+    Soak { start: u64, calls: u64 },
+}
+
+/// What the words, without the program's name, ask for.
+pub(crate) fn asked_by(words: &[String]) -> Asked
+    ensures { IsAsked (map string_bytes words.now) result }
+{
+    if is_replay(words) {
+        return Asked::Replay;
+    }
+    match soak_asked(words) {
+        Some((start, calls)) => Asked::Soak { start, calls },
+        None => Asked::Nothing,
+    }
+}
+
 /// Whether the words, without the program's name, are exactly `replay`.
-pub(crate) fn is_replay(words: &[String]) -> bool
+fn is_replay(words: &[String]) -> bool
     ensures { IsTrue result ↔ IsReplay (map string_bytes words.now) }
 {
     match words {
@@ -17,9 +47,56 @@ pub(crate) fn is_replay(words: &[String]) -> bool
     }
 }
 
+/// The start and the number of calls, where the words are exactly `soak START CALLS`.
+fn soak_asked(words: &[String]) -> Option<(u64, u64)>
+    ensures { MatchOption result (IsNoSoak (map string_bytes words.now)) (λ soak. IsSoak (map string_bytes words.now) soak.0 soak.1) }
+{
+    match words {
+        [word, start, calls] => soak_numbers(word.as_str(), start.as_str(), calls.as_str()),
+        _ => None,
+    }
+}
+
+/// The same for three words.
+fn soak_numbers(word: &str, start: &str, calls: &str) -> Option<(u64, u64)>
+    ensures { MatchOption result (IsNoSoak (word.now ∷ start.now ∷ calls.now ∷ [])) (λ soak. IsSoak (word.now ∷ start.now ∷ calls.now ∷ []) soak.0 soak.1) }
+{
+    if word != "soak" {
+        return None;
+    }
+    let start = number(start)?;
+    let calls = number(calls)?;
+    if calls > MOST_CALLS {
+        return None;
+    }
+    Some((start, calls))
+}
+
+/// The number below 2^64 that is printed as this word, if there is one: without a sign or leading zeros.
+fn number(word: &str) -> Option<u64>
+    ensures printed { IfSome result (λ n. word.now ≡ decimal n) }
+    ensures none { IfNone result ((n : ℕ) → n < 2 ^ 64 → word.now ≢ decimal n) }
+{
+    let Ok(number) = word.parse::<u64>() else {
+        return None;
+    };
+    if is_printed(number, word) {
+        Some(number)
+    } else {
+        None
+    }
+}
+
+/// Whether the word is what is printed of a number.
+fn is_printed(number: u64, word: &str) -> bool
+    ensures { IsTrue result ↔ (word.now ≡ decimal number) }
+{
+    Buffer::new().format(number) == word
+}
+
 /// Writes the usage line, and gives the status of words that are in no list: 2, or 5 where the sink fails.
 pub(crate) fn tell_usage<K: Sink>(sink: &mut K) -> u8
-    ensures { TellsUsage result (record { held = K.held sink.old; faults = K.faults sink.old }) (record { held = K.held sink.new; faults = K.faults sink.new }) }
+    ensures { TellsUsage result (sink_facts (K.held sink.old) (K.faults sink.old)) (sink_facts (K.held sink.new) (K.faults sink.new)) }
 {
     let Ok(()) = write_all(sink, usage_line().as_bytes()) else {
         return SINK_FAILED;

@@ -39,5 +39,5 @@ play_hears w (event ∷ events) =
     play_hears (after_event w event) events ∙ ap (λ (xs : List AskFacts). xs ++ asks_among events) (event_hears w event) ∙ append_assoc w.heap.heard (ask_in event) (asks_among events)
 
 -- those of a play from the opening world are all that was heard
-pub came_asks : {from : Outset} {count : ℕ} {awaits : Awaits} {ahead : List Line} {text : List ℕ} {now : Now} → (came : Reached from count awaits ahead text now) → asks_among came.events ≡ now.heap.heard
-came_asks {from} {count} {awaits} {ahead} {text} {now} came = sym (play_hears opening_world came.events) ∙ ap (λ (w : World). w.heap.heard) came.here
+pub came_asks : {from : Outset} {lines : List Line} {awaits : Awaits} {ahead : List Line} {text : List ℕ} {now : Now} → (came : Reached from lines awaits ahead text now) → asks_among came.events ≡ now.heap.heard
+came_asks {from} {lines} {awaits} {ahead} {text} {now} came = sym (play_hears opening_world came.events) ∙ ap (λ (w : World). w.heap.heard) came.here

@@ -1,28 +1,34 @@
 -- Replays at their beginning and at their end.
-use Rattle.replay_run.proofs.Words.{arith, length, map, true, IfErr, IfOk, replicate, ◌≡◌, ◌≤◌, ◌⊎◌, inl, inr, ℕ, Bool, List, [], ◌++◌, eqb, false, Option, None, Result, Ok, Err, refl, sym, subst, IsErrAnd, Appends-nil, Consumes-nil, All-nil, Consumes, Keeps, Rose, AskFacts, Shelf, Journal, journal_of, opening_heap, Stop, WriteFault, TakesSome, IsSound, lines_in, world_after, Ending, IsEnding, Open, Prints, ReplayOf, ending_text, Here, Now, Outset, HasStopCause, status_for, status_in, Nothing, World, opening_world}
+use Rattle.replay_run.proofs.Words.{arith, length, map, true, IfErr, IfOk, replicate, ◌≡◌, ◌≤◌, ◌⊎◌, inl, inr, ℕ, Bool, List, [], ◌++◌, eqb, false, Option, None, Result, Ok, Err, refl, sym, subst, IsErrAnd, Appends-nil, Consumes-nil, All-nil, Consumes, Keeps, Rose, AskFacts, Shelf, Journal, journal_of, opening_heap, Stop, ReadFault, WriteFault, TakesSome, IsSound, lines_in, world_after, Ending, IsEnding, Open, Prints, ReplayOf, RunOf, ending_text, HasRead, Here, Now, Outset, Reading, HasStopCause, status_for, status_in, Nothing, World, no_answers, opening_world}
 use Rattle.replay_run.proofs.Endings.{kept_after, kept_begun}
 use Rattle.replay_run.proofs.Stops.{prints_begun}
 
 -- ---- the beginning
 
 -- before the first line nothing was carried out
-pub here_none : (from : Outset) (now : Now) → now.heap ≡ opening_heap → now.verbs ≡ replicate 32 None → now.names ≡ [] → now.moment ≡ 0 → now.pending ≡ [] →
-    now.shelf ≡ from.shelf → now.left ≡ from.left → now.held ≡ from.held → IsSound now.heap → Here from 0 Nothing [] now
-here_none from now heap verbs names moment none shelf left held sound = record {
+pub here_none : (from : Outset) (now : Now) → now.heap ≡ opening_heap → now.verbs ≡ replicate 32 None → now.names ≡ [] → now.tally ≡ no_answers → now.moment ≡ 0 →
+    now.shelf ≡ from.shelf → now.held ≡ from.held → IsSound now.heap → Here from [] Nothing [] now
+here_none from now heap verbs names tally moment shelf held sound = record {
   text = [];
   came = record {
     events = [];
     play = tt;
-    here = rw (heap, verbs, names, moment) refl;
+    here = rw (heap, verbs, names, tally, moment) refl;
     sound = subst IsSound heap sound;
     chain = shelf;
-    taken = [];
-    takes = rw left (Consumes-nil from.left);
-    reads = sym none;
-    number = refl;
-    few = omega arith;
+    of_lines = refl;
   };
   prints = rw held (Appends-nil from.held);
+}
+
+-- and nothing was read
+pub read_none : (left : Option (List ℕ)) (at : Reading) → at.pending ≡ [] → at.left ≡ left → HasRead left [] 0 at
+read_none left at none same = record {
+  taken = [];
+  takes = rw same (Consumes-nil left);
+  reads = sym none;
+  number = refl;
+  few = omega arith;
 }
 
 -- ---- the end
@@ -51,23 +57,19 @@ prints_kept {status} {w} {count} {rest} {ending} {before} {held} {after} prints 
     }
 
 -- where the last flush fails, what was printed is the beginning of a report at least
-prints_or : {status : ℕ} {w : World} {count : ℕ} {rest : List ℕ} {ending : Ending} {before held after : Option (List ℕ)} (other : ℕ) → (other ≡ status) ⊎ (other ≡ 5) → Prints status w count rest ending before held → Keeps held after →
+prints_or : {T : Type 0} {status : ℕ} {w : World} {count : ℕ} {rest : List ℕ} {ending : Ending} {before held after : Option (List ℕ)} (other : ℕ) → (other ≡ status) ⊎ ((other ≡ 5) × T) → Prints status w count rest ending before held → Keeps held after →
     Prints other w count rest ending before after
 prints_or other (inl same) prints kept = rw same (prints_kept prints kept)
-prints_or {status} {w} {count} {rest} {ending} {before} {held} {after} other (inr five) prints kept =
-    rw five (prints_begun (omega arith) (omega arith) (kept_begun before held after (w.text ++ ending_text w count ending) prints.beginning kept))
+prints_or {T} {status} {w} {count} {rest} {ending} {before} {held} {after} other (inr five) prints kept =
+    rw five.0 (prints_begun (omega arith) (omega arith) (kept_begun before held after (w.text ++ ending_text w count ending) prints.beginning kept))
 
 -- a replay ends with another status, which says less, and its sink keeps what it holds
-pub replay_or : {status : ℕ} {journals : List Journal} {heard : List AskFacts} {shelf_before shelf_after : Shelf} {met : Bool} {left_before left before held after : Option (List ℕ)} (other : ℕ) →
-    (other ≡ status) ⊎ (other ≡ 5) → Keeps held after → ReplayOf status journals heard shelf_before shelf_after met left_before left before held →
+pub replay_or : {T : Type 0} {status : ℕ} {journals : List Journal} {heard : List AskFacts} {shelf_before shelf_after : Shelf} {met : Bool} {left_before left before held after : Option (List ℕ)} (other : ℕ) →
+    (other ≡ status) ⊎ ((other ≡ 5) × T) → Keeps held after → ReplayOf status journals heard shelf_before shelf_after met left_before left before held →
     ReplayOf other journals heard shelf_before shelf_after met left_before left before after
 replay_or other which kept replay = record {
   events = replay.events;
-  play = replay.play;
-  sound = replay.sound;
-  in_journals = replay.in_journals;
-  hears = replay.hears;
-  chain = replay.chain;
+  ran = replay.ran;
   taken = replay.taken;
   takes = replay.takes;
   rest = replay.rest;
@@ -79,19 +81,18 @@ replay_or other which kept replay = record {
 }
 
 -- the status after the last flush
-pub last_status : (ended flushed : Result ℕ Stop) (status : ℕ) {T : Type 0} → (flushed ≡ ended) ⊎ ((flushed ≡ Err WriteFault) × T) → status ≡ status_in flushed → (status ≡ status_in ended) ⊎ (status ≡ 5)
+pub last_status : (ended flushed : Result ℕ Stop) (status : ℕ) {T : Type 0} → (flushed ≡ ended) ⊎ ((flushed ≡ Err WriteFault) × T) → status ≡ status_in flushed → (status ≡ status_in ended) ⊎ ((status ≡ 5) × T)
 last_status ended flushed status {T} (inl same) is = inl (rw same at is)
-last_status ended flushed status {T} (inr fault) is = inr (rw fault.0 at is)
+last_status ended flushed status {T} (inr fault) is = inr (rw fault.0 at is, fault.1)
 
 -- without memory for a heap nothing happens
+pub ran_none : (shelf : Shelf) → IsSound opening_heap → RunOf (map journal_of opening_heap.records) [] shelf shelf []
+ran_none shelf sound = record { play = tt; sound = sound; in_journals = refl; hears = refl; chain = refl }
+
 pub replay_none : (shelf : Shelf) (met : Bool) (left held : Option (List ℕ)) → IsSound opening_heap → ReplayOf 6 (map journal_of opening_heap.records) [] shelf shelf met left left held held
 replay_none shelf met left held sound = record {
   events = [];
-  play = tt;
-  sound = sound;
-  in_journals = refl;
-  hears = refl;
-  chain = refl;
+  ran = ran_none shelf sound;
   taken = [];
   takes = Consumes-nil left;
   rest = [];
@@ -124,6 +125,20 @@ rose_wider low old new high below above (inr greatest) = inr (omega (arith, abov
 -- the cause of a stop that used only the sink
 pub cause_wider : {T : Type 0} (r : Result T Stop) (s s' low old new : ℕ) → low ≤ old → IfErr r (λ stop. HasStopCause stop 0 0 old new) → IfErr r (λ stop. HasStopCause stop s s' low new)
 cause_wider r s s' low old new below cause = grind (arith, rose_wider)
+
+-- status 4 comes of a read that failed
+pub read_faulted : (r : Result ℕ Stop) (status : ℕ) {T : Type 0} (s s' k k' : ℕ) → (status ≡ status_in r) ⊎ ((status ≡ 5) × T) → IfOk r IsWholeStatus → IfErr r (λ stop. HasStopCause stop s s' k k') → status ≡ 4 → Rose s s'
+read_faulted (Ok whole) status s s' k k' which is cause four = absurd (omega (arith, which, is, four))
+read_faulted (Err ReadFault) status s s' k k' which is cause four = cause
+read_faulted (Err stop) status s s' k k' which is cause four = absurd (grind (arith, which, four))
+
+-- status 5 comes of a write that failed, in the run or of the last flush
+pub write_faulted : (r : Result ℕ Stop) (status s s' low mid high : ℕ) → low ≤ mid → mid ≤ high → (status ≡ status_in r) ⊎ ((status ≡ 5) × Rose mid high) → IfOk r IsWholeStatus →
+    IfErr r (λ stop. HasStopCause stop s s' low mid) → status ≡ 5 → Rose low high
+write_faulted r status s s' low mid high below above (inr rose) is cause five = rose_wider low mid high high below (omega arith) rose.1
+write_faulted (Ok whole) status s s' low mid high below above (inl same) is cause five = absurd (omega (arith, same, is, five))
+write_faulted (Err WriteFault) status s s' low mid high below above (inl same) is cause five = rose_wider low low mid high (omega arith) above cause
+write_faulted (Err stop) status s s' low mid high below above (inl same) is cause five = absurd (grind (arith, same, five))
 
 -- at status 0 the source has met its end
 pub replay_ended : {status : ℕ} {journals : List Journal} {heard : List AskFacts} {shelf_before shelf_after : Shelf} {met : Bool} {left_before left before after : Option (List ℕ)} →

@@ -14,6 +14,8 @@ pub mod Longer
 pub mod Opens
 pub mod NewHeaps
 pub mod Ends
+pub mod GivenLines
+pub mod Answering
 pub mod Tales
 pub mod Truths
 pub mod Reasons

@@ -1,5 +1,5 @@
 -- A step of a client's open call is an event.
-use Rattle.replay_run.proofs.Words.{◌≡◌, ◌≢◌, inl, inr, ℕ, Bool, true, List, [], ◌++◌, Option, Some, is_none, refl, sym, subst, ◌∙◌, ap, append-nil, Appends-trans, Appends, AppendsPrefix, Chain, Shelf, CallFacts, Want, WantAsk, WantTurn, want, Did, Stepped, ToldItem, HeapFacts, IsStepFor, IsStep, answered_by, holder_for, moment_after, answer_of, seat_at, ask_line, turn_line, Line, Verb, WorldEvent, IsNext, IsWanted, Ask, Starved, Told, Turned, Unnamed, after_event, client_awaited, line_in, shelf_event, Stop, IsSound, Reached, EndsHere, Here, Now, Outset, did_line, is_one_step, shown_line, world_at, status_for, Awaits, OneStep, World, awaits_after, ended_line, has_open_call, names_closed, step_text, stepped, verb_at, verbs_closed, AskFacts, last_asked, last_pushed}
+use Rattle.replay_run.proofs.Words.{◌≡◌, ◌≢◌, inl, inr, ℕ, Bool, true, List, [], ◌++◌, Option, Some, is_none, refl, sym, subst, ◌∙◌, ap, append-nil, Appends-trans, Appends, AppendsPrefix, Chain, Shelf, CallFacts, Want, WantAsk, WantTurn, want, Did, Stepped, ToldItem, HeapFacts, IsStepFor, IsStep, answered_by, holder_for, moment_after, answer_of, seat_at, ask_line, turn_line, Line, Verb, WorldEvent, IsNext, IsWanted, Ask, Starved, Told, Turned, Unnamed, after_event, client_awaited, line_in, shelf_event, Stop, IsSound, Reached, Halted, Here, Now, Outset, did_line, is_one_step, shown_line, world_at, status_for, Awaits, OneStep, World, awaits_after, ended_line, has_open_call, names_closed, step_text, stepped, tally_closed, verb_at, verbs_closed, AskFacts, last_asked, last_pushed}
 use Rattle.call_plan.specs.declared.needs.Answered.TheVariants.{NoMemory}
 use Rattle.replay_run.proofs.Came.{Leads, came_next}
 use Rattle.replay_run.proofs.Endings.{all_of, behind, longer}
@@ -86,15 +86,16 @@ now_stepped now c told heap shelf held = record now {
   heap = heap;
   verbs = verbs_closed now.verbs c told.ended;
   names = names_closed now.names (verb_at now.verbs c) told.ended;
+  tally = tally_closed now.tally told.ended;
   shelf = shelf;
   held = held;
 }
 
 -- the replay came behind the step
-step_came : {from : Outset} {count : ℕ} {awaits : Awaits} {now : Now} (so : Here from count awaits [] now) (c : ℕ) (told : Stepped) (heap : HeapFacts) (shelf : Shelf) (held : Option (List ℕ)) →
+step_came : {from : Outset} {lines : List Line} {awaits : Awaits} {now : Now} (so : Here from lines awaits [] now) (c : ℕ) (told : Stepped) (heap : HeapFacts) (shelf : Shelf) (held : Option (List ℕ)) →
     client_awaited awaits ≡ Some c → has_open_call now.heap c ≡ true → IsStep now.heap now.shelf c (seat_at now.heap.seats c).call told heap shelf → IsSound heap → told.ended ≢ Some NoMemory →
-    Reached from count (awaits_after awaits (is_none told.ended)) [] (so.text ++ step_line (is_one_step awaits) c now.verbs told heap) (now_stepped now c told heap shelf held)
-step_came {from} {count} {awaits} {now} so c told heap shelf held awaited is step sound memory =
+    Reached from lines (awaits_after awaits (is_none told.ended)) [] (so.text ++ step_line (is_one_step awaits) c now.verbs told heap) (now_stepped now c told heap shelf held)
+step_came {from} {lines} {awaits} {now} so c told heap shelf held awaited is step sound memory =
     let event = step_event (world_at now so.text awaits) c now.shelf told heap shelf awaited is step in
     let leads : Leads event.event awaits [] so.text now (awaits_after awaits (is_none told.ended)) [] (so.text ++ step_line (is_one_step awaits) c now.verbs told heap) (now_stepped now c told heap shelf held) = record {
       next = event.next;
@@ -103,43 +104,39 @@ step_came {from} {count} {awaits} {now} so c told heap shelf held awaited is ste
       sound = sound;
       lines = ap (λ (ls : List Line). ls ++ []) (sym event.lines);
       chain = event.chain;
-      pending = refl;
-      left = refl;
     } in
     came_next so.came leads
 
 -- the replay stops behind the step, of which nothing was printed
-pub step_stops : {from : Outset} {count : ℕ} {awaits : Awaits} {now : Now} (so : Here from count awaits [] now) (c : ℕ) (told : Stepped) (heap : HeapFacts) (shelf : Shelf) (stop : Stop) →
+pub step_stops : {from : Outset} {lines : List Line} {awaits : Awaits} {now : Now} (so : Here from lines awaits [] now) (c : ℕ) (told : Stepped) (heap : HeapFacts) (shelf : Shelf) (stop : Stop) →
     client_awaited awaits ≡ Some c → has_open_call now.heap c ≡ true → IsStep now.heap now.shelf c (seat_at now.heap.seats c).call told heap shelf → IsSound heap → status_for stop ≢ 4 →
-    EndsHere from (status_for stop) (record now { heap = heap; shelf = shelf })
-step_stops {from} {count} {awaits} {now} so c told heap shelf stop awaited is step sound other =
+    Halted from lines stop (record now { heap = heap; shelf = shelf })
+step_stops {from} {lines} {awaits} {now} so c told heap shelf stop awaited is step sound other =
     let w : World = world_at now so.text awaits in
     let event = step_event w c now.shelf told heap shelf awaited is step in
     let last : World = after_event w event.event in
-    let now' : Now = record now { heap = heap; shelf = shelf; verbs = last.verbs; names = last.names; moment = last.moment } in
+    let now' : Now = record now { heap = heap; shelf = shelf; verbs = last.verbs; names = last.names; tally = last.tally; moment = last.moment } in
     let leads : Leads event.event awaits [] so.text now last.awaits [] last.text now' = record {
       next = event.next;
       after = ap (λ (h : HeapFacts). record last { heap = h }) event.leads;
       sound = sound;
       lines = ap (λ (ls : List Line). ls ++ []) (sym event.lines);
       chain = event.chain;
-      pending = refl;
-      left = refl;
     } in
     stops_after (came_next so.came leads) stop other (rw event.text (longer from.held now.held so.text event.more (all_of from.held now.held so.text so.prints)))
 
 -- the replay stops behind the step, of which a beginning was printed
-pub step_stops_printed : {from : Outset} {count : ℕ} {awaits : Awaits} {now : Now} (so : Here from count awaits [] now) (c : ℕ) (told : Stepped) (heap : HeapFacts) (shelf : Shelf) (held : Option (List ℕ)) (stop : Stop) →
+pub step_stops_printed : {from : Outset} {lines : List Line} {awaits : Awaits} {now : Now} (so : Here from lines awaits [] now) (c : ℕ) (told : Stepped) (heap : HeapFacts) (shelf : Shelf) (held : Option (List ℕ)) (stop : Stop) →
     client_awaited awaits ≡ Some c → has_open_call now.heap c ≡ true → IsStep now.heap now.shelf c (seat_at now.heap.seats c).call told heap shelf → IsSound heap → told.ended ≢ Some NoMemory →
-    status_for stop ≢ 4 → AppendsPrefix now.held held (step_line (is_one_step awaits) c now.verbs told heap) → EndsHere from (status_for stop) (record now { heap = heap; shelf = shelf; held = held })
-step_stops_printed {from} {count} {awaits} {now} so c told heap shelf held stop awaited is step sound memory other printed =
+    status_for stop ≢ 4 → AppendsPrefix now.held held (step_line (is_one_step awaits) c now.verbs told heap) → Halted from lines stop (record now { heap = heap; shelf = shelf; held = held })
+step_stops_printed {from} {lines} {awaits} {now} so c told heap shelf held stop awaited is step sound memory other printed =
     stops_after (step_came so c told heap shelf held awaited is step sound memory) stop other (behind from.held now.held held so.text _ so.prints printed)
 
 -- the replay goes on behind the step, of which all was printed
-pub step_goes : {from : Outset} {count : ℕ} {awaits : Awaits} {now : Now} (so : Here from count awaits [] now) (c : ℕ) (told : Stepped) (heap : HeapFacts) (shelf : Shelf) (held : Option (List ℕ)) →
+pub step_goes : {from : Outset} {lines : List Line} {awaits : Awaits} {now : Now} (so : Here from lines awaits [] now) (c : ℕ) (told : Stepped) (heap : HeapFacts) (shelf : Shelf) (held : Option (List ℕ)) →
     client_awaited awaits ≡ Some c → has_open_call now.heap c ≡ true → IsStep now.heap now.shelf c (seat_at now.heap.seats c).call told heap shelf → IsSound heap → told.ended ≢ Some NoMemory →
-    Appends now.held held (step_line (is_one_step awaits) c now.verbs told heap) → Here from count (awaits_after awaits (is_none told.ended)) [] (now_stepped now c told heap shelf held)
-step_goes {from} {count} {awaits} {now} so c told heap shelf held awaited is step sound memory printed = record {
+    Appends now.held held (step_line (is_one_step awaits) c now.verbs told heap) → Here from lines (awaits_after awaits (is_none told.ended)) [] (now_stepped now c told heap shelf held)
+step_goes {from} {lines} {awaits} {now} so c told heap shelf held awaited is step sound memory printed = record {
   text = so.text ++ step_line (is_one_step awaits) c now.verbs told heap;
   came = step_came so c told heap shelf held awaited is step sound memory;
   prints = Appends-trans from.held now.held held so.text (step_line (is_one_step awaits) c now.verbs told heap) so.prints printed;

@@ -1,34 +1,63 @@
--- Replays that end.
-use Rattle.replay_run.proofs.Words.{arith, length, map, ◌≡◌, ◌≤◌, ◌≢◌, ◌⊎◌, ℕ, Bool, List, [], ◌++◌, Option, Result, Ok, Err, IfOk, IfErr, OnOk, OnErr, refl, sym, ◌∙◌, ap, subst, append-nil, Appends-trans, IsErrAnd, Appends, AppendsPrefix, journal_of, Cause, Line, HasNoNewline, Stop, ReadFault, status_of, ReadsTo, TakesSome, lines_in, world_after, Bad, Ending, IsEnding, Open, Prints, Whole, ending_text, Reached, EndsHere, GoesOn, Here, Now, Outset, world_at, HasStopCause, status_for, status_in, Awaits, Nothing, World, opening_world}
+-- Runs that stop, and replays that end.
+use Rattle.replay_run.proofs.Words.{arith, length, map, ◌≡◌, ◌≤◌, ◌≢◌, ◌⊎◌, ℕ, Bool, List, [], ◌++◌, Option, Result, Ok, Err, IfOk, IfErr, OnOk, OnErr, refl, sym, ◌∙◌, ap, subst, append-nil, Appends-trans, IsErrAnd, Appends, AppendsPrefix, AskFacts, Shelf, Journal, journal_of, Cause, Line, HasNoNewline, Stop, ReadFault, status_of, ReadsTo, TakesSome, WorldEvent, lines_in, world_after, Bad, Ending, IsEnding, Open, Prints, ReplayOf, RunOf, Whole, ending_text, Reached, Between, EndsHere, GoesOn, Halted, StopOf, HasRead, Now, Outset, Reading, reading, world_at, HasStopCause, status_for, status_in, Awaits, Nothing, World, opening_world}
 use Rattle.replay_run.proofs.Asks.{came_asks}
-use Rattle.replay_run.proofs.Came.{came_held, here_read}
+use Rattle.replay_run.proofs.Came.{between_read, came_held}
 use Rattle.replay_run.proofs.Endings.{all_of, behind, longer, read_fault, sink_fault, stop_bounds}
+
+-- ---- what a run has done
+
+-- what was carried out where a play came here
+pub came_ran : {from : Outset} {lines : List Line} {awaits : Awaits} {ahead : List Line} {text : List ℕ} {now : Now} → (came : Reached from lines awaits ahead text now) →
+    RunOf (map journal_of now.heap.records) now.heap.heard from.shelf now.shelf came.events
+came_ran {from} {lines} {awaits} {ahead} {text} {now} came = record {
+  play = came.play;
+  sound = came.sound;
+  in_journals = ap (λ (w : World). map journal_of w.heap.records) came.here;
+  hears = came_asks came;
+  chain = came.chain;
+}
+
+-- the lines of its events, where none is ahead
+pub came_lines : {from : Outset} {lines : List Line} {awaits : Awaits} {text : List ℕ} {now : Now} → (came : Reached from lines awaits [] text now) → lines_in came.events ≡ lines
+came_lines came = sym (append-nil (lines_in came.events)) ∙ came.of_lines
+
+-- the beginning of a text was printed where something other than the source stopped the run
+pub stops_after : {from : Outset} {lines : List Line} {awaits : Awaits} {text : List ℕ} {now : Now} → Reached from lines awaits [] text now → (stop : Stop) → status_for stop ≢ 4 →
+    AppendsPrefix from.held now.held text → Halted from lines stop now
+stops_after {from} {lines} {awaits} {text} {now} came stop other begun = record {
+  events = came.events;
+  ran = came_ran came;
+  of_lines = came_lines came;
+  begun = subst (AppendsPrefix from.held now.held) (sym (ap (λ (w : World). w.text) came.here)) begun;
+  why = other;
+}
 
 -- ---- where a replay ends
 
--- A play came to this moment, and the replay ends here, by what is right of its last world.
-pub ends_here : {from : Outset} {count : ℕ} {awaits : Awaits} {text : List ℕ} {now : Now} → Reached from count awaits [] text now → (status : ℕ) (ending : Ending) →
-    IsEnding (world_at now text awaits) count now.pending now.left now.met ending → Prints status (world_at now text awaits) count now.pending ending from.held now.held →
-    EndsHere from status now
-ends_here {from} {count} {awaits} {text} {now} came status ending ends prints =
-    let none : lines_in came.events ≡ lines_in came.events ++ [] = sym (append-nil (lines_in came.events)) in
-    let number : length (lines_in came.events) ≡ count = ap length none ∙ came.number in
-    let last : world_after opening_world came.events ≡ world_at now text awaits = came.here in record {
-      events = came.events;
-      play = came.play;
-      sound = came.sound;
-      in_journals = ap (λ (w : World). map journal_of w.heap.records) last;
-      hears = came_asks came;
-      chain = came.chain;
-      taken = came.taken;
-      takes = came.takes;
-      rest = now.pending;
-      reads = subst (λ (ls : List Line). ReadsTo ls came.taken now.pending) (sym none) came.reads;
-      few = omega (arith, number, came.few);
+-- Events were carried out, and the replay ends here, by what is right of their last world.
+ends_by : {journals : List Journal} {heard : List AskFacts} {shelf_before shelf_after : Shelf} {before after left : Option (List ℕ)} {lines : List Line} {count : ℕ} {at : Reading} {events : List WorldEvent} →
+    RunOf journals heard shelf_before shelf_after events → lines_in events ≡ lines → HasRead left lines count at → (status : ℕ) (ending : Ending) →
+    IsEnding (world_after opening_world events) count at.pending at.left at.met ending → Prints status (world_after opening_world events) count at.pending ending before after →
+    ReplayOf status journals heard shelf_before shelf_after at.met left at.left before after
+ends_by {lines = lines} {count = count} {at = at} {events = events} ran same read status ending ends prints =
+    let number : length (lines_in events) ≡ count = ap length same ∙ read.number in record {
+      events = events;
+      ran = ran;
+      taken = read.taken;
+      takes = read.takes;
+      rest = at.pending;
+      reads = subst (λ (ls : List Line). ReadsTo ls read.taken at.pending) (sym same) read.reads;
+      few = omega (arith, number, read.few);
       ending = ending;
-      ends = rw (last, number) ends;
-      prints = rw (last, number) prints;
+      ends = rw number ends;
+      prints = rw number prints;
     }
+
+-- A play came to this moment, and the replay ends here, by what is right of its last world.
+ends_here : {from : Outset} {left : Option (List ℕ)} {lines : List Line} {count : ℕ} {at : Reading} {awaits : Awaits} {text : List ℕ} {now : Now} → Reached from lines awaits [] text now → HasRead left lines count at → (status : ℕ) (ending : Ending) →
+    IsEnding (world_at now text awaits) count at.pending at.left at.met ending → Prints status (world_at now text awaits) count at.pending ending from.held now.held → EndsHere from left status at now
+ends_here {from} {left} {lines} {count} {at} {awaits} {text} {now} came read status ending ends prints =
+    ends_by (came_ran came) (came_lines came) read status ending (rw came.here ends) (rw came.here prints)
 
 -- ---- stops in the middle
 
@@ -43,19 +72,21 @@ prints_begun low high begun = record {
   cut_off = λ is. absurd (omega (arith, is, low));
 }
 
--- the beginning of a text was printed where something other than the source stopped the replay
-pub stops_after : {from : Outset} {count : ℕ} {awaits : Awaits} {text : List ℕ} {now : Now} → Reached from count awaits [] text now → (stop : Stop) → status_for stop ≢ 4 →
-    AppendsPrefix from.held now.held text → EndsHere from (status_for stop) now
-stops_after {from} {count} {awaits} {text} {now} came stop other begun =
+-- a replay ends where its run stopped
+pub stop_ends : {journals : List Journal} {heard : List AskFacts} {shelf_before shelf_after : Shelf} {before after left : Option (List ℕ)} {lines : List Line} {count : ℕ} {at : Reading} (stop : Stop) →
+    StopOf lines stop journals heard shelf_before shelf_after before after → HasRead left lines count at → ReplayOf (status_for stop) journals heard shelf_before shelf_after at.met left at.left before after
+stop_ends {before = before} {after = after} stop halted read =
     let bounds = stop_bounds stop in
-    ends_here came (status_for stop) Open tt (prints_begun (omega (arith, bounds.0, other)) bounds.1 (longer from.held now.held text [] begun))
+    ends_by halted.ran halted.of_lines read (status_for stop) Open tt
+    (prints_begun (omega (arith, bounds.0, halted.why)) bounds.1 (longer before after (world_after opening_world halted.events).text [] halted.begun))
 
 -- all so far was printed where something stopped the replay between two lines
-pub stops_between : {from : Outset} {count : ℕ} {now : Now} → Here from count Nothing [] now → (stop : Stop) → (status_for stop ≡ 4 → HasNoNewline now.pending) →
-    EndsHere from (status_for stop) now
-stops_between {from} {count} {now} so stop cut =
+pub stops_between : {from : Outset} {left : Option (List ℕ)} {count : ℕ} {at : Reading} {now : Now} → Between from left count at now → (stop : Stop) → (status_for stop ≡ 4 → HasNoNewline at.pending) →
+    EndsHere from left (status_for stop) at now
+stops_between {from} {left} {count} {at} {now} between stop cut =
+    let so = between.here in
     let bounds = stop_bounds stop in
-    ends_here so.came (status_for stop) Open tt (record {
+    ends_here so.came between.read (status_for stop) Open tt (record {
       beginning = longer from.held now.held so.text [] (all_of from.held now.held so.text so.prints);
       whole = λ is. absurd (omega (arith, is, bounds.0));
       refused = λ is. absurd (omega (arith, is, bounds.0));
@@ -64,10 +95,10 @@ stops_between {from} {count} {now} so stop cut =
     })
 
 -- a read failed, or memory for what was read was wanting
-pub stops_reading : {from : Outset} {count : ℕ} {now : Now} → Here from count Nothing [] now → (stop : Stop) (left : Option (List ℕ)) (met : Bool) →
-    TakesSome (stop ≡ ReadFault) now.pending now.left left → EndsHere from (status_for stop) (record now { pending = now.pending; left = left; met = met })
-stops_reading {from} {count} {now} so stop left met takes =
-    stops_between (here_read so (now.pending ++ takes.0) left met (takes.0, takes.1, refl)) stop (λ four. takes.2 (read_fault stop four))
+pub stops_reading : {from : Outset} {left : Option (List ℕ)} {count : ℕ} {at : Reading} {now : Now} → Between from left count at now → (stop : Stop) (left' : Option (List ℕ)) (met : Bool) →
+    TakesSome (stop ≡ ReadFault) at.pending at.left left' → EndsHere from left (status_for stop) (reading at.pending left' met) now
+stops_reading {from} {left} {count} {at} {now} between stop left' met takes =
+    stops_between (between_read between (at.pending ++ takes.0) left' met (takes.0, takes.1, refl)) stop (λ four. takes.2 (read_fault stop four))
 
 -- ---- the last text
 
@@ -101,25 +132,27 @@ prints_last status w count rest (Bad cause) before after is all = let which = st
 prints_last status w count rest Open before after is all = absurd is
 
 -- the last text of a report was printed, or something stopped the replay there
-pub ends_last : {from : Outset} {count : ℕ} {now : Now} (so : Here from count Nothing [] now) (r : Result ℕ Stop) (status : ℕ) (ending : Ending) (k k' : ℕ) (held : Option (List ℕ)) →
-    IsLast status ending → IsEnding (world_at now so.text Nothing) count now.pending now.left now.met ending → IfOk r (λ n. n ≡ status) →
-    OnOk r (Appends now.held held (ending_text (world_at now so.text Nothing) count ending)) → OnErr r (AppendsPrefix now.held held (ending_text (world_at now so.text Nothing) count ending)) →
-    IfErr r (λ stop. HasStopCause stop 0 0 k k') → EndsHere from (status_in r) (record now { held = held })
-ends_last {from} {count} {now} so (Ok n) status ending k k' held last ends is ok err cause =
+pub ends_last : {from : Outset} {left : Option (List ℕ)} {count : ℕ} {at : Reading} {now : Now} (between : Between from left count at now) (r : Result ℕ Stop) (status : ℕ) (ending : Ending) (k k' : ℕ) (held : Option (List ℕ)) →
+    IsLast status ending → IsEnding (world_at now between.here.text Nothing) count at.pending at.left at.met ending → IfOk r (λ n. n ≡ status) →
+    OnOk r (Appends now.held held (ending_text (world_at now between.here.text Nothing) count ending)) → OnErr r (AppendsPrefix now.held held (ending_text (world_at now between.here.text Nothing) count ending)) →
+    IfErr r (λ stop. HasStopCause stop 0 0 k k') → EndsHere from left (status_in r) at (record now { held = held })
+ends_last {from} {left} {count} {at} {now} between (Ok n) status ending k k' held last ends is ok err cause =
+    let so = between.here in
     let w : World = world_at now so.text Nothing in
-    rw is (ends_here (came_held so.came held) status ending ends
-    (prints_last status w count now.pending ending from.held held last (Appends-trans from.held now.held held so.text (ending_text w count ending) so.prints ok)))
-ends_last {from} {count} {now} so (Err stop) status ending k k' held last ends is ok err cause =
+    rw is (ends_here (came_held so.came held) between.read status ending ends
+    (prints_last status w count at.pending ending from.held held last (Appends-trans from.held now.held held so.text (ending_text w count ending) so.prints ok)))
+ends_last {from} {left} {count} {at} {now} between (Err stop) status ending k k' held last ends is ok err cause =
+    let so = between.here in
     let w : World = world_at now so.text Nothing in
     let bounds = stop_bounds stop in
     let other = sink_fault stop k k' cause in
-    ends_here (came_held so.came held) (status_for stop) ending ends
+    ends_here (came_held so.came held) between.read (status_for stop) ending ends
     (prints_begun (omega (arith, bounds.0, other)) bounds.1 (behind from.held now.held held so.text (ending_text w count ending) so.prints err))
 
 -- ---- what stops passes on
 
--- a stop that was passed on ends the replay
-pub goes_stop : {A : Type 0} (from : Outset) (count : ℕ) (awaits : Awaits) (r : Result A Stop) (stop : Stop) (now : Now) → IsErrAnd r (λ passed. passed ≡ stop) →
-    EndsHere from (status_for stop) now → GoesOn from count awaits r now
-goes_stop {A} from count awaits (Ok done) stop now is ends = absurd is
-goes_stop {A} from count awaits (Err passed) stop now is ends = rw is ends
+-- a stop that was passed on ends the run
+pub goes_stop : {A : Type 0} (from : Outset) (lines : List Line) (awaits : Awaits) (r : Result A Stop) (stop : Stop) (now : Now) → IsErrAnd r (λ passed. passed ≡ stop) →
+    Halted from lines stop now → GoesOn from lines awaits r now
+goes_stop {A} from lines awaits (Ok done) stop now is halted = absurd is
+goes_stop {A} from lines awaits (Err passed) stop now is halted = rw is halted

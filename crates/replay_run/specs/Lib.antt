@@ -6,6 +6,7 @@ pub mod Plays
 pub mod Input
 pub mod Replays
 pub mod Stops
+pub mod Soaks
 pub mod SoFar
 pub mod Steps
 pub mod Answers

@@ -57,16 +57,20 @@ pub record Prints (status : ℕ) (w : World) (count : ℕ) (rest : List ℕ) (en
   pub cut_off : status ≡ 4 → (ending ≡ Open) × IsComplete w × HasNoNewline rest × Appends before after w.text
 
 -- What was carried out is a play from the opening world, each world of which is sound: the journals are those of its last
--- world, its asks are all that was heard, and what it did to the shelf leads from the shelf before to that after. Its lines are
--- those at the beginning of the bytes that were taken, and what stands behind them and what was printed is as the status says.
-pub record ReplayOf (status : ℕ) (journals : List Journal) (heard : List AskFacts) (shelf_before shelf_after : Shelf)
-    (met : Bool) (left_before left before after : Option (List ℕ)) : Type 0 where
-  pub events : List WorldEvent
+-- world, its asks are all that was heard, and what it did to the shelf leads from the shelf before to that after.
+pub record RunOf (journals : List Journal) (heard : List AskFacts) (shelf_before shelf_after : Shelf) (events : List WorldEvent) : Type 0 where
   pub play : IsPlay opening_world events
   pub sound : AllWorlds HasSoundHeap opening_world events
   pub in_journals : map journal_of (world_after opening_world events).heap.records ≡ journals
   pub hears : asks_among events ≡ heard
   pub chain : Chain shelf_before (shelf_events events) shelf_after
+
+-- Events were carried out whose lines are those at the beginning of the bytes that were taken, and what stands behind them and
+-- what was printed is as the status says.
+pub record ReplayOf (status : ℕ) (journals : List Journal) (heard : List AskFacts) (shelf_before shelf_after : Shelf)
+    (met : Bool) (left_before left before after : Option (List ℕ)) : Type 0 where
+  pub events : List WorldEvent
+  pub ran : RunOf journals heard shelf_before shelf_after events
   pub taken : List ℕ
   pub takes : Consumes left_before left taken
   pub rest : List ℕ

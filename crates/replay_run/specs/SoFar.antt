@@ -1,9 +1,10 @@
--- What is known of a replay while it goes on.
+-- What is known of a run while it goes on.
 use Rattle.std.specs.Prelude.{◌≡◌, ◌≢◌, ◌≤◌, ◌+◌, ℕ, Bool, true, false, List, [], ◌++◌, Option, None, Some, Result, Ok, Err, length, map}
-use Rattle.edge_io.specs.Bytes.{Appends, Consumes, IsAtEnd}
+use Rattle.edge_io.specs.Bytes.{Appends, AppendsPrefix, Consumes, IsAtEnd}
 use Rattle.hook_api.specs.Asked.{AskFacts}
 use Rattle.hook_api.specs.Chain.{Chain}
 use Rattle.hook_api.specs.Shelf.{Shelf}
+use Rattle.hook_api.specs.declared.kept.Journal.{Journal}
 use Rattle.heap_core.specs.declared.heaps.Did.{Did}
 use Rattle.heap_core.specs.declared.heaps.Did.TheVariants.{Idle, Turn, Ask}
 use Rattle.heap_core.specs.Arenas.{journal_of}
@@ -18,24 +19,23 @@ use Rattle.replay_run.specs.declared.input.Stop.{Stop}
 use Rattle.replay_run.specs.declared.replays.Next.{Next}
 use Rattle.replay_run.specs.declared.replays.Next.TheVariants.{Carried, Bad, Over}
 use Rattle.replay_run.specs.declared.state.State.{State}
+use Rattle.replay_run.specs.declared.tally.Tally.{Tally}
 use Rattle.replay_run.specs.Causes.{line_limit}
 use Rattle.replay_run.specs.Input.{ReadsTo}
 use Rattle.replay_run.specs.Plays.{AllWorlds, WorldEvent, HasSoundHeap, IsPlay, lines_in, shelf_events, world_after}
-use Rattle.replay_run.specs.Replays.{IsBadLine, ReplayOf}
+use Rattle.replay_run.specs.Replays.{IsBadLine, ReplayOf, RunOf}
 use Rattle.replay_run.specs.Stops.{status_for}
 use Rattle.replay_run.specs.World.{Awaits, Nothing, OneStep, World, opening_world}
 
--- What a replay has at a moment: the heap, what the open calls are, the names, the moment in nanoseconds, the shelf, the bytes
--- that were read and not used yet, those that are left, whether the end was met, and those that the sink holds.
+-- What a run has at a moment: the heap, what the open calls are, the names, the tally, the moment in nanoseconds, the shelf,
+-- and the bytes that the sink holds.
 pub record Now : Type 0 where
   pub heap : HeapFacts
   pub verbs : List (Option Verb)
   pub names : List (List ℕ × ℕ)
+  pub tally : Tally
   pub moment : ℕ
   pub shelf : Shelf
-  pub pending : List ℕ
-  pub left : Option (List ℕ)
-  pub met : Bool
   pub held : Option (List ℕ)
 
 -- Where the reading of a trace stands: the bytes that were read and not used, those left, and whether the end was met.
@@ -48,50 +48,70 @@ pub record Reading : Type 0 where
 abbrev pub reading : List ℕ → Option (List ℕ) → Bool → Reading
 reading pending left met = record { pending = pending; left = left; met = met }
 
--- what a replay has, by its state and what stands beside that
-abbrev pub now_of : State → Shelf → Reading → Option (List ℕ) → Now
-now_of state shelf at held = record {
+-- what a run has, by its state and what stands beside that
+abbrev pub now_of : State → Shelf → Option (List ℕ) → Now
+now_of state shelf held = record {
   heap = state.heap;
   verbs = state.verbs.items;
   names = state.names;
+  tally = state.tally;
   moment = state.moment;
   shelf = shelf;
-  pending = at.pending;
-  left = at.left;
-  met = at.met;
   held = held;
 }
 
--- What a replay begins with: the shelf, what is left to read, and what the sink holds.
+-- What a run begins with: the shelf, and what the sink holds.
 pub record Outset : Type 0 where
   pub shelf : Shelf
-  pub left : Option (List ℕ)
   pub held : Option (List ℕ)
 
 -- the world at a moment, with this text, where this is waited for
 abbrev pub world_at : Now → List ℕ → Awaits → World
 world_at now text awaits =
-    record { heap = now.heap; verbs = now.verbs; names = now.names; moment = now.moment; text = text; awaits = awaits }
+    record { heap = now.heap; verbs = now.verbs; names = now.names; tally = now.tally; moment = now.moment; text = text; awaits = awaits }
 
--- A play came to this moment, at which this is waited for, and these lines are read next, after which there are so many. Its
--- text is this one, and its lines are those of the bytes that were taken.
-pub record Reached (from : Outset) (count : ℕ) (awaits : Awaits) (ahead : List Line) (text : List ℕ) (now : Now) : Type 0 where
+-- A play came to this moment, at which this is waited for, and its text is this one. These are its lines, wherever they come from,
+-- and the last of them, those ahead, are read next.
+pub record Reached (from : Outset) (lines : List Line) (awaits : Awaits) (ahead : List Line) (text : List ℕ) (now : Now) : Type 0 where
   pub events : List WorldEvent
   pub play : IsPlay opening_world events
   pub here : world_after opening_world events ≡ world_at now text awaits
   pub sound : AllWorlds HasSoundHeap opening_world events
   pub chain : Chain from.shelf (shelf_events events) now.shelf
-  pub taken : List ℕ
-  pub takes : Consumes from.left now.left taken
-  pub reads : ReadsTo (lines_in events ++ ahead) taken now.pending
-  pub number : length (lines_in events ++ ahead) ≡ count
-  pub few : count ≤ line_limit
+  pub of_lines : lines_in events ++ ahead ≡ lines
 
 -- A play came to this moment, and its text was printed.
-pub record Here (from : Outset) (count : ℕ) (awaits : Awaits) (ahead : List Line) (now : Now) : Type 0 where
+pub record Here (from : Outset) (lines : List Line) (awaits : Awaits) (ahead : List Line) (now : Now) : Type 0 where
   pub text : List ℕ
-  pub came : Reached from count awaits ahead text now
+  pub came : Reached from lines awaits ahead text now
   pub prints : Appends from.held now.held text
+
+-- Events of these lines were carried out, and then something stopped the run that was no read of a source; a beginning of their
+-- text was printed at least.
+pub record StopOf (lines : List Line) (stop : Stop) (journals : List Journal) (heard : List AskFacts) (shelf_before shelf_after : Shelf) (before after : Option (List ℕ)) : Type 0 where
+  pub events : List WorldEvent
+  pub ran : RunOf journals heard shelf_before shelf_after events
+  pub of_lines : lines_in events ≡ lines
+  pub begun : AppendsPrefix before after (world_after opening_world events).text
+  pub why : status_for stop ≢ 4
+
+-- a run that stopped at this moment
+abbrev pub Halted : Outset → List Line → Stop → Now → Type 0
+Halted from lines stop now = StopOf lines stop (map journal_of now.heap.records) now.heap.heard from.shelf now.shelf from.held now.held
+
+-- The bytes that were taken since so many were left are these lines, so many, and then the bytes that are pending.
+pub record HasRead (left : Option (List ℕ)) (lines : List Line) (count : ℕ) (at : Reading) : Type 0 where
+  pub taken : List ℕ
+  pub takes : Consumes left at.left taken
+  pub reads : ReadsTo lines taken at.pending
+  pub number : length lines ≡ count
+  pub few : count ≤ line_limit
+
+-- So many lines were read, and a play of them came to this moment, at which nothing is waited for.
+pub record Between (from : Outset) (left : Option (List ℕ)) (count : ℕ) (at : Reading) (now : Now) : Type 0 where
+  pub lines : List Line
+  pub read : HasRead left lines count at
+  pub here : Here from lines Nothing [] now
 
 -- whether one step is waited for
 abbrev pub is_one_step : Awaits → Bool
@@ -114,22 +134,22 @@ abbrev pub shown_line : Bool → ℕ → Did → Option AskFacts → List ℕ
 shown_line true c did last = did_line c did last
 shown_line false c did last = []
 
--- a replay that ends here with a status
-abbrev pub EndsHere : Outset → ℕ → Now → Type 0
-EndsHere from status now = ReplayOf status (map journal_of now.heap.records) now.heap.heard from.shelf now.shelf now.met
-    from.left now.left from.held now.held
+-- a run went on to where this is waited for, or it stopped
+abbrev pub GoesOn : {A : Type 0} → Outset → List Line → Awaits → Result A Stop → Now → Type 0
+GoesOn from lines awaits (Ok done) now = Here from lines awaits [] now
+GoesOn from lines awaits (Err stop) now = Halted from lines stop now
 
--- a replay went on to where this is waited for, or it stopped
-abbrev pub GoesOn : {A : Type 0} → Outset → ℕ → Awaits → Result A Stop → Now → Type 0
-GoesOn from count awaits (Ok done) now = Here from count awaits [] now
-GoesOn from count awaits (Err stop) now = EndsHere from (status_for stop) now
+-- a replay that ends here with a status
+abbrev pub EndsHere : Outset → Option (List ℕ) → ℕ → Reading → Now → Type 0
+EndsHere from left status at now = ReplayOf status (map journal_of now.heap.records) now.heap.heard from.shelf now.shelf at.met
+    left at.left from.held now.held
 
 -- the next line was carried out, or it is bad, or there is none; or the replay stopped
-abbrev pub GoesNext : Outset → ℕ → Result Next Stop → Now → Type 0
-GoesNext from count (Ok Carried) now = Here from (count + 1) Nothing [] now
-GoesNext from count (Ok (Bad cause)) now = Here from count Nothing [] now × IsBadLine now.moment (count + 1) now.pending now.met cause
-GoesNext from count (Ok Over) now = Here from count Nothing [] now × (now.pending ≡ []) × IsAtEnd now.left × (now.met ≡ true)
-GoesNext from count (Err stop) now = EndsHere from (status_for stop) now
+abbrev pub GoesNext : Outset → Option (List ℕ) → ℕ → Result Next Stop → Reading → Now → Type 0
+GoesNext from left count (Ok Carried) at now = Between from left (count + 1) at now
+GoesNext from left count (Ok (Bad cause)) at now = Between from left count at now × IsBadLine now.moment (count + 1) at.pending at.met cause
+GoesNext from left count (Ok Over) at now = Between from left count at now × (at.pending ≡ []) × IsAtEnd at.left × (at.met ≡ true)
+GoesNext from left count (Err stop) at now = EndsHere from left (status_for stop) at now
 
 -- what bytes without a whole line lead to: they are too many for one, or none are left, or the last line is cut
 abbrev pub IsUnread : Found → List ℕ → Next → Type 0

@@ -1,5 +1,5 @@
 -- Worlds: everything that the rest of a replay can depend on, and how a line, a turn or an ask leads from one to the next.
-use Rattle.std.specs.Prelude.{ℕ, ◌/◌, ℤ, pos, Bool, true, false, List, [], ◌++◌, Option, None, Some, is_none, is_some, replicate, slice_index_or, slice_set}
+use Rattle.std.specs.Prelude.{ℕ, ◌+◌, ◌-◌, ◌/◌, ◌^◌, ℤ, min, pos, Bool, true, false, List, [], ◌++◌, Option, None, Some, if◌then◌else◌, is_none, is_some, replicate, slice_index_or, slice_set}
 use Rattle.std.specs.List.{flat_map, list_any, position, range_with_len}
 use Rattle.space_model.specs.declared.Counts.{Counts}
 use Rattle.space_model.specs.declared.Rest.{Rest}
@@ -21,6 +21,7 @@ use Rattle.trace_text.specs.declared.lines.Verb.{Verb}
 use Rattle.trace_text.specs.declared.lines.Verb.TheVariants.{Malloc, Memalign, Free, Publish, Take, Purge, Decay, Time, Reset, Destroy, Create, Bind, Cache, Flush}
 use Rattle.trace_text.specs.declared.lines.Line.{Line}
 use Rattle.trace_text.specs.declared.lines.Line.TheVariants.{Call, Start, Step, End, At, Counts as CountsOf}
+use Rattle.replay_run.specs.declared.tally.Tally.{Tally}
 use Rattle.replay_run.specs.Names.{address_at, named}
 use Rattle.replay_run.specs.Heads.{answer_line}
 
@@ -35,19 +36,32 @@ pub data Awaits : Type 0 where
   TheStart : (client : ℕ) (verb : Verb) (whole : Bool) → Awaits
   Memory : Awaits
 
--- A world: the heap, what each client's open call is, the names that are bound, each with its address, the moment in
--- nanoseconds, the text printed so far, and what is waited for.
+-- A world: the heap, what each client's open call is, the names that are bound, each with its address, how many calls have
+-- answered Ok and how many otherwise, the moment in nanoseconds, the text of the lines so far, and what is waited for.
 pub record World : Type 0 where
   pub heap : HeapFacts
   pub verbs : List (Option Verb)
   pub names : List (List ℕ × ℕ)
+  pub tally : Tally
   pub moment : ℕ
   pub text : List ℕ
   pub awaits : Awaits
 
+-- no call has an answer
+abbrev pub no_answers : Tally
+no_answers = record { good = 0; failed = 0 }
+
 -- the world before the first line
 abbrev pub opening_world : World
-opening_world = record { heap = opening_heap; verbs = replicate 32 None; names = []; moment = 0; text = []; awaits = Nothing }
+opening_world = record {
+  heap = opening_heap;
+  verbs = replicate 32 None;
+  names = [];
+  tally = no_answers;
+  moment = 0;
+  text = [];
+  awaits = Nothing;
+}
 
 -- what a client's open call is
 abbrev pub verb_at : List (Option Verb) → ℕ → Option Verb
@@ -125,6 +139,21 @@ names_ended names (Malloc name size) (Ok (Region addr class)) = named names name
 names_ended names (Memalign name align size) (Ok (Region addr class)) = named names name addr
 names_ended names verb answer = names
 
+-- a count with one more, up to the greatest `u64`
+abbrev pub one_more : ℕ → ℕ
+one_more n = min (n + 1) (2 ^ 64 - 1)
+
+-- whether a call answered Ok
+abbrev pub is_good : Answered → Bool
+is_good (Ok given) = true
+is_good answer = false
+
+-- the tally with one more answer: Ok, or another one
+abbrev pub tallied : Tally → Answered → Tally
+tallied tally answer =
+    if is_good answer then record tally { good = one_more tally.good }
+    else record tally { failed = one_more tally.failed }
+
 -- what is waited for behind the beginning of a call: its end, where it is carried out whole
 abbrev pub awaits_begun : ℕ → Bool → Awaits
 awaits_begun c true = TheEnd c
@@ -133,7 +162,7 @@ awaits_begun c false = Nothing
 -- a call that has begun is open, or has its answer at once
 abbrev pub begun_as : World → ℕ → Verb → Bool → Option Answered → World
 begun_as w c verb whole (Some answer) =
-    record w { text = w.text ++ answer_line c verb answer; names = names_ended w.names verb answer; awaits = Nothing }
+    record w { text = w.text ++ answer_line c verb answer; names = names_ended w.names verb answer; tally = tallied w.tally answer; awaits = Nothing }
 begun_as w c verb whole None = record w { verbs = slice_set w.verbs c (Some verb); awaits = awaits_begun c whole }
 
 -- a call of a client begins
@@ -159,6 +188,11 @@ abbrev pub names_closed : List (List ℕ × ℕ) → Option Verb → Option Answ
 names_closed names (Some verb) (Some answer) = names_ended names verb answer
 names_closed names verb answer = names
 
+-- the tally behind a step
+abbrev pub tally_closed : Tally → Option Answered → Tally
+tally_closed tally (Some answer) = tallied tally answer
+tally_closed tally None = tally
+
 -- what the open calls are once a client's call has its answer, if it has
 abbrev pub verbs_closed : List (Option Verb) → ℕ → Option Answered → List (Option Verb)
 verbs_closed verbs c (Some answer) = slice_set verbs c None
@@ -176,6 +210,7 @@ stepped w c heap line answer = record w {
   heap = heap;
   verbs = verbs_closed w.verbs c answer;
   names = names_closed w.names (verb_at w.verbs c) answer;
+  tally = tally_closed w.tally answer;
   text = w.text ++ (step_text w.awaits line ++ ended_line c (verb_at w.verbs c) answer);
   awaits = awaits_after w.awaits (is_none answer);
 }

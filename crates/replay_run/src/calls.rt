@@ -1,17 +1,18 @@
 //! Calls of clients: how they begin, their steps, and their ends.
 
-ghost use Rattle.std.specs.Prelude.{◌≡◌, ◌≢◌, ◌++◌, ◌<◌, ◌≤◌, ℕ, Bool, true, false, [], Some, IfErr, OnErr, OnOk};
+ghost use Rattle.std.specs.Prelude.{◌≡◌, ◌≢◌, ◌++◌, ◌<◌, ◌≤◌, ℕ, Bool, true, false, List, [], Some, IfErr, OnErr, OnOk};
 ghost use Rattle.edge_io.specs.Bytes.{Appends, AppendsPrefix};
 ghost use Rattle.hook_api.specs.Shelf.{Shelf};
 ghost use Rattle.call_plan.specs.declared.needs.Answered.{Answered};
 ghost use Rattle.call_plan.specs.declared.needs.Answered.TheVariants.{NoMemory as WasStarved};
+ghost use Rattle.trace_text.specs.declared.lines.Line.{Line};
 ghost use Rattle.trace_text.specs.declared.lines.Verb.{Verb};
 ghost use Rattle.trace_text.specs.Grammar.{IsVerbWithinLimits};
 ghost use Rattle.report_text.specs.Lines.{call_line};
 ghost use Rattle.heap_core.specs.Logs.{last_asked};
 ghost use Rattle.replay_run.specs.Heads.{answer_line};
 ghost use Rattle.replay_run.specs.Plays.{client_awaited};
-ghost use Rattle.replay_run.specs.SoFar.{GoesOn, Here, Outset, Reading, asked_line, is_one_step, now_of, shown_line};
+ghost use Rattle.replay_run.specs.SoFar.{GoesOn, Here, Outset, asked_line, is_one_step, now_of, shown_line};
 ghost use Rattle.replay_run.specs.Steps.{steps_of};
 ghost use Rattle.replay_run.specs.Stops.{HasStopCause};
 ghost use Rattle.replay_run.specs.World.{Awaits, Nothing, TheStart, awaits_after, awaits_begun, awaits_call, ended_line, has_open_call, names_ended};
@@ -143,9 +144,9 @@ pub fn step_once<K: Sink, H: ExtentHooks>(
 ) -> Result<(), Stop>
     requires client { client < 32 }
     requires open_call { has_open_call state.old.heap client ≡ true }
-    ensures goes { (from : Outset) (count : ℕ) (awaits : Awaits) (at : Reading) → client_awaited awaits ≡ Some client → is_one_step awaits ≡ shown
-        → Here from count awaits [] (now_of state.old shelf.old at (K.held sink.old))
-        → GoesOn from count (awaits_after awaits (has_open_call state.new.heap client)) result (now_of state.new shelf.new at (K.held sink.new)) }
+    ensures goes { (from : Outset) (lines : List Line) (awaits : Awaits) → client_awaited awaits ≡ Some client → is_one_step awaits ≡ shown
+        → Here from lines awaits [] (now_of state.old shelf.old (K.held sink.old))
+        → GoesOn from lines (awaits_after awaits (has_open_call state.new.heap client)) result (now_of state.new shelf.new (K.held sink.new)) }
     ensures longer { OnOk result (steps_of state.old.heap < steps_of state.new.heap) }
     ensures cause { IfErr result (λ stop. HasStopCause stop 0 0 (K.faults sink.old) (K.faults sink.new)) }
     ensures counts { K.faults sink.old ≤ K.faults sink.new }
@@ -203,14 +204,15 @@ fn begin_call<K: Sink>(
     requires client { client < 32 }
     requires limits { IsVerbWithinLimits verb }
     requires rests { has_open_call state.old.heap client ≡ false }
-    ensures goes { (from : Outset) (count : ℕ) (whole : Bool) (shelf : Shelf) (at : Reading)
-        → Here from count (TheStart client verb whole) [] (now_of state.old shelf at (K.held sink.old))
-        → GoesOn from count (awaits_after (awaits_begun client whole) (has_open_call state.new.heap client)) result (now_of state.new shelf at (K.held sink.new)) }
+    ensures goes { (from : Outset) (lines : List Line) (whole : Bool) (shelf : Shelf)
+        → Here from lines (TheStart client verb whole) [] (now_of state.old shelf (K.held sink.old))
+        → GoesOn from lines (awaits_after (awaits_begun client whole) (has_open_call state.new.heap client)) result (now_of state.new shelf (K.held sink.new)) }
     ensures cause { IfErr result (λ stop. HasStopCause stop 0 0 (K.faults sink.old) (K.faults sink.new)) }
     ensures counts { K.faults sink.old ≤ K.faults sink.new }
 {
     let Some(request) = state.request_of(&verb) else {
         let answer = Answered::NotHeld(state.target_of(&verb));
+        state.tally.count(&answer);
         let (text, names) = (&mut state.text, &mut state.names);
         return answer_call(text, sink, names, client, verb, answer);
     };
@@ -219,6 +221,7 @@ fn begin_call<K: Sink>(
     state.heap.stands();
     match ended {
         Some(answer) => {
+            state.tally.count(&answer);
             let (text, names) = (&mut state.text, &mut state.names);
             answer_call(text, sink, names, client, verb, answer)
         }
@@ -238,9 +241,9 @@ pub fn run_to_end<K: Sink, H: ExtentHooks>(
     client: u32,
 ) -> Result<(), Stop>
     requires { client < 32 }
-    ensures goes { (from : Outset) (count : ℕ) (awaits : Awaits) (at : Reading) → client_awaited awaits ≡ Some client → is_one_step awaits ≡ false
-        → Here from count (awaits_after awaits (has_open_call state.old.heap client)) [] (now_of state.old shelf.old at (K.held sink.old))
-        → GoesOn from count (awaits_after awaits false) result (now_of state.new shelf.new at (K.held sink.new)) }
+    ensures goes { (from : Outset) (lines : List Line) (awaits : Awaits) → client_awaited awaits ≡ Some client → is_one_step awaits ≡ false
+        → Here from lines (awaits_after awaits (has_open_call state.old.heap client)) [] (now_of state.old shelf.old (K.held sink.old))
+        → GoesOn from lines (awaits_after awaits false) result (now_of state.new shelf.new (K.held sink.new)) }
     ensures rests { OnOk result (has_open_call state.new.heap client ≡ false) }
     ensures cause { IfErr result (λ stop. HasStopCause stop 0 0 (K.faults sink.old) (K.faults sink.new)) }
     ensures counts { K.faults sink.old ≤ K.faults sink.new }
@@ -265,9 +268,9 @@ pub fn carry_call<K: Sink, H: ExtentHooks>(
 ) -> Result<(), Stop>
     requires client { client < 32 }
     requires limits { IsVerbWithinLimits verb }
-    ensures goes { (from : Outset) (count : ℕ) (at : Reading)
-        → Here from count (awaits_call (has_open_call state.old.heap client) client verb whole) [] (now_of state.old shelf.old at (K.held sink.old))
-        → GoesOn from count Nothing result (now_of state.new shelf.new at (K.held sink.new)) }
+    ensures goes { (from : Outset) (lines : List Line)
+        → Here from lines (awaits_call (has_open_call state.old.heap client) client verb whole) [] (now_of state.old shelf.old (K.held sink.old))
+        → GoesOn from lines Nothing result (now_of state.new shelf.new (K.held sink.new)) }
     ensures cause { IfErr result (λ stop. HasStopCause stop 0 0 (K.faults sink.old) (K.faults sink.new)) }
     ensures counts { K.faults sink.old ≤ K.faults sink.new }
 {

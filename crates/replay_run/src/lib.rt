@@ -13,7 +13,10 @@ mod names;
 mod prints;
 mod replays;
 mod requests;
+mod soaks;
 mod state;
+mod tally;
 
 pub use laws::{answers_have_causes, memaligns_are_aligned};
 pub use replays::{Replayed, replay};
+pub use soaks::soak;

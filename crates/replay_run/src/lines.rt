@@ -1,12 +1,13 @@
 //! Lines: how each is carried out.
 
-ghost use Rattle.std.specs.Prelude.{◌≡◌, ◌<◌, ◌≤◌, ◌++◌, ℕ, true, false, [], ◌∷◌, None, IfErr, OnErr, OnOk};
+ghost use Rattle.std.specs.Prelude.{◌≡◌, ◌<◌, ◌≤◌, ◌++◌, true, false, List, [], ◌∷◌, None, IfErr, OnErr, OnOk};
 ghost use Rattle.edge_io.specs.Bytes.{Appends, AppendsPrefix};
 ghost use Rattle.report_text.specs.Lines.{idle_line};
+ghost use Rattle.trace_text.specs.declared.lines.Line.{Line};
 ghost use Rattle.trace_text.specs.declared.lines.Line.TheVariants.{End, Step};
 ghost use Rattle.trace_text.specs.Grammar.{IsWithinLimits};
 ghost use Rattle.replay_run.specs.Causes.{line_cause};
-ghost use Rattle.replay_run.specs.SoFar.{GoesOn, Here, Outset, Reading, now_of};
+ghost use Rattle.replay_run.specs.SoFar.{GoesOn, Here, Outset, now_of};
 ghost use Rattle.replay_run.specs.Stops.{HasStopCause};
 ghost use Rattle.replay_run.specs.World.{Nothing, counts_text};
 
@@ -70,9 +71,9 @@ fn step_line<K: Sink, H: ExtentHooks>(
     client: u32,
 ) -> Result<(), Stop>
     requires { client < 32 }
-    ensures goes { (from : Outset) (count : ℕ) (at : Reading)
-        → Here from count Nothing (Step client ∷ []) (now_of state.old shelf.old at (K.held sink.old))
-        → GoesOn from count Nothing result (now_of state.new shelf.new at (K.held sink.new)) }
+    ensures goes { (from : Outset) (lines : List Line)
+        → Here from lines Nothing (Step client ∷ []) (now_of state.old shelf.old (K.held sink.old))
+        → GoesOn from lines Nothing result (now_of state.new shelf.new (K.held sink.new)) }
     ensures cause { IfErr result (λ stop. HasStopCause stop 0 0 (K.faults sink.old) (K.faults sink.new)) }
     ensures counts { K.faults sink.old ≤ K.faults sink.new }
 {
@@ -93,9 +94,9 @@ fn end_line<K: Sink, H: ExtentHooks>(
     client: u32,
 ) -> Result<(), Stop>
     requires { client < 32 }
-    ensures goes { (from : Outset) (count : ℕ) (at : Reading)
-        → Here from count Nothing (End client ∷ []) (now_of state.old shelf.old at (K.held sink.old))
-        → GoesOn from count Nothing result (now_of state.new shelf.new at (K.held sink.new)) }
+    ensures goes { (from : Outset) (lines : List Line)
+        → Here from lines Nothing (End client ∷ []) (now_of state.old shelf.old (K.held sink.old))
+        → GoesOn from lines Nothing result (now_of state.new shelf.new (K.held sink.new)) }
     ensures cause { IfErr result (λ stop. HasStopCause stop 0 0 (K.faults sink.old) (K.faults sink.new)) }
     ensures counts { K.faults sink.old ≤ K.faults sink.new }
 {
@@ -116,9 +117,9 @@ pub fn carry_line<K: Sink, H: ExtentHooks>(
 ) -> Result<(), Stop>
     requires cause { line_cause state.old.moment line ≡ None }
     requires limits { IsWithinLimits line }
-    ensures goes { (from : Outset) (count : ℕ) (at : Reading)
-        → Here from count Nothing (line ∷ []) (now_of state.old shelf.old at (K.held sink.old))
-        → GoesOn from count Nothing result (now_of state.new shelf.new at (K.held sink.new)) }
+    ensures goes { (from : Outset) (lines : List Line)
+        → Here from lines Nothing (line ∷ []) (now_of state.old shelf.old (K.held sink.old))
+        → GoesOn from lines Nothing result (now_of state.new shelf.new (K.held sink.new)) }
     ensures cause { IfErr result (λ stop. HasStopCause stop 0 0 (K.faults sink.old) (K.faults sink.new)) }
     ensures counts { K.faults sink.old ≤ K.faults sink.new }
 {

@@ -1,6 +1,6 @@
 //! The replay of a trace: its lines are carried out, and what they answer is printed.
 
-ghost use Rattle.std.specs.Prelude.{◌≡◌, ◌≢◌, ◌+◌, ◌<◌, ◌≤◌, ◌⊎◌, ◌++◌, ℕ, true, List, [], Result, Err, map, replicate, None, IfErr, IfOk, OnErr, OnOk};
+ghost use Rattle.std.specs.Prelude.{◌≡◌, ◌≢◌, ◌+◌, ◌<◌, ◌≤◌, ◌⊎◌, ◌++◌, ℕ, true, List, [], Option, Result, Err, map, replicate, None, IfErr, IfOk, OnErr, OnOk};
 ghost use Rattle.edge_io.specs.Bytes.{Appends, AppendsPrefix, Keeps, Rose};
 ghost use Rattle.hook_api.specs.declared.kept.Journal.{Journal};
 ghost use Rattle.heap_core.specs.Arenas.{journal_of};
@@ -8,10 +8,10 @@ ghost use Rattle.heap_core.specs.Heaps.{opening_heap};
 ghost use Rattle.report_text.specs.Lines.{bad_line};
 ghost use Rattle.replay_run.specs.Causes.{line_limit, status_of};
 ghost use Rattle.replay_run.specs.Replays.{HandsOut, ReplayOf};
-ghost use Rattle.replay_run.specs.SoFar.{GoesNext, Here, IsUnread, Outset, now_of, reading};
+ghost use Rattle.replay_run.specs.SoFar.{Between, GoesNext, IsUnread, Outset, now_of, reading};
 ghost use Rattle.replay_run.specs.Stops.{HasStopCause, IsReplayStatus, status_in};
 ghost use Rattle.replay_run.specs.declared.input.Stop.TheVariants.{ReadFault, WriteFault};
-ghost use Rattle.replay_run.specs.World.{Nothing, closing, closing_line, live_counts};
+ghost use Rattle.replay_run.specs.World.{closing, closing_line, live_counts, no_answers};
 
 use crate::input::{Found, Pending, Stop, find_line, has_more, read_line};
 use crate::lines::carry_line;
@@ -45,11 +45,11 @@ const OVER_LIMIT: u8 = 7;
 /// How many lines a trace has at most.
 const LINES: u64 = 1 << 20;
 
-/// What a replay leaves.
+/// What a replay or a soak leaves.
 #[derive(Drop)]
 pub struct Replayed<H: ExtentHooks> {
     /// The status: 0, or 3 where a line can't be carried out, 4 where a read failed, 5 where a write failed, 6 where memory was
-    /// wanting, and 7 where a limit was passed.
+    /// wanting, and 7 where a limit was passed. A soak reads nothing, and has only 0, 5 and 6.
     pub status: u8,
     /// The shelf that was handed in, after the asks of the run and the plans of its lines.
     pub shelf: HookShelf<H>,
@@ -90,9 +90,9 @@ fn next_line<S: Source, K: Sink, H: ExtentHooks>(
     state: &mut State,
     pending: &mut Pending,
 ) -> Result<Next, Stop>
-    ensures goes { (from : Outset) (count : ℕ) → count < line_limit
-        → Here from count Nothing [] (now_of state.old shelf.old (reading pending.old (S.left source.old) (S.ended source.old)) (K.held sink.old))
-        → GoesNext from count result (now_of state.new shelf.new (reading pending.new (S.left source.new) (S.ended source.new)) (K.held sink.new)) }
+    ensures goes { (from : Outset) (left : Option (List ℕ)) (count : ℕ) → count < line_limit
+        → Between from left count (reading pending.old (S.left source.old) (S.ended source.old)) (now_of state.old shelf.old (K.held sink.old))
+        → GoesNext from left count result (reading pending.new (S.left source.new) (S.ended source.new)) (now_of state.new shelf.new (K.held sink.new)) }
     ensures cause { IfErr result (λ stop. HasStopCause stop (S.faults source.old) (S.faults source.new) (K.faults sink.old) (K.faults sink.new)) }
     ensures source_counts { S.faults source.old ≤ S.faults source.new }
     ensures sink_counts { K.faults sink.old ≤ K.faults sink.new }
@@ -146,7 +146,7 @@ fn write_closing(out: &mut Vec<u8>, index: u32, counts: Option<Counts>) -> Resul
 }
 
 /// The count lines of the live arenas, by index.
-fn closing_text(alloc: Global, state: &State) -> Result<Vec<u8>, NoMemory>
+pub fn closing_text(alloc: Global, state: &State) -> Result<Vec<u8>, NoMemory>
     ensures { IfOk result (λ text. text.items ≡ closing state.now.heap) }
 {
     let mut text = Vec::new(alloc);
@@ -156,8 +156,8 @@ fn closing_text(alloc: Global, state: &State) -> Result<Vec<u8>, NoMemory>
     Ok(text)
 }
 
-/// Prints a text, if there was memory for it, and gives the status of a replay that went on to its end.
-fn print_last<K: Sink>(sink: &mut K, text: Result<Vec<u8>, NoMemory>) -> Result<u8, Stop>
+/// Prints a text, if there was memory for it, and gives the status of a run that went on to its end.
+pub fn print_last<K: Sink>(sink: &mut K, text: Result<Vec<u8>, NoMemory>) -> Result<u8, Stop>
     ensures status { IfOk result (λ told. told ≡ 0) }
     ensures text { (bytes : List ℕ) → IfOk text (λ t. t.items ≡ bytes) → OnOk result (Appends (K.held sink.old) (K.held sink.new) bytes) }
     ensures beginning { (bytes : List ℕ) → IfOk text (λ t. t.items ≡ bytes) → OnErr result (AppendsPrefix (K.held sink.old) (K.held sink.new) bytes) }
@@ -191,6 +191,7 @@ fn run_lines<S: Source, K: Sink, H: ExtentHooks>(
     requires heap { state.old.heap ≡ opening_heap }
     requires verbs { state.old.verbs.items ≡ replicate 32 None }
     requires names { state.old.names ≡ [] }
+    requires tally { state.old.tally ≡ no_answers }
     requires moment { state.old.moment ≡ 0 }
     ensures replay { ReplayOf (status_in result) (map journal_of state.new.heap.records) state.new.heap.heard shelf.old
         shelf.new (S.ended source.new) (S.left source.old) (S.left source.new) (K.held sink.old) (K.held sink.new) }
@@ -242,6 +243,47 @@ fn flush_last<K: Sink>(sink: &mut K, ended: Result<u8, Stop>) -> Result<u8, Stop
     }
 }
 
+/// What a run leaves for which there was no memory: the shelf that was handed in, and nothing else.
+pub fn nothing<H: ExtentHooks>(alloc: Global, shelf: HookShelf<H>) -> Replayed<H>
+    ensures status { result.status ≡ 6 }
+    ensures shelf { result.shelf ≡ shelf }
+    ensures journals { result.journals ≡ [] }
+    ensures heard { result.heard ≡ [] }
+{
+    Replayed {
+        status: NO_MEMORY,
+        shelf,
+        journals: Journals::none(alloc),
+        heard: Askeds::new(alloc),
+    }
+}
+
+/// What a run leaves whose lines ended so, once what waits in the sink is handed on.
+pub fn leave<K: Sink, H: ExtentHooks>(
+    sink: &mut K,
+    shelf: HookShelf<H>,
+    state: State,
+    ended: Result<u8, Stop>,
+) -> Replayed<H>
+    requires { IfOk ended (λ status. (status ≡ 0) ⊎ (status ≡ 3) ⊎ (status ≡ 7)) }
+    ensures status { (result.status ≡ status_in ended) ⊎ ((result.status ≡ 5) × Rose (K.faults sink.old) (K.faults sink.new)) }
+    ensures shelf { result.shelf ≡ shelf }
+    ensures journals { result.journals ≡ map journal_of state.heap.records }
+    ensures heard { result.heard ≡ state.heap.heard }
+    ensures kept { Keeps (K.held sink.old) (K.held sink.new) }
+    ensures counts { K.faults sink.old ≤ K.faults sink.new }
+    ensures known { IsReplayStatus result.status }
+{
+    let ended = flush_last(sink, ended);
+    let (journals, heard) = state.into_heap().finish();
+    Replayed {
+        status: status_in(ended),
+        shelf,
+        journals,
+        heard,
+    }
+}
+
 /// Carries out the lines of a source over a new heap, asks the hooks of the shelf, and prints what the calls answer and the
 /// counts of the arenas that are live at the end.
 ///
@@ -265,20 +307,8 @@ pub fn replay<S: Source, K: Sink, H: ExtentHooks>(
 {
     let mut shelf = shelf;
     let Ok(mut state) = State::new(alloc) else {
-        return Replayed {
-            status: NO_MEMORY,
-            shelf,
-            journals: Journals::none(alloc),
-            heard: Askeds::new(alloc),
-        };
+        return nothing(alloc, shelf);
     };
     let ended = run_lines(alloc, source, sink, &mut shelf, &mut state);
-    let ended = flush_last(sink, ended);
-    let (journals, heard) = state.into_heap().finish();
-    Replayed {
-        status: status_in(ended),
-        shelf,
-        journals,
-        heard,
-    }
+    leave(sink, shelf, state, ended)
 }

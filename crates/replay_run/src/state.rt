@@ -4,6 +4,7 @@ ghost use Rattle.std.specs.Prelude.{◌≡◌, length, None, replicate, IfOk};
 
 use crate::names::Names;
 use crate::requests::arena_request;
+use crate::tally::Tally;
 use call_plan::{Answered, Request};
 use heap_core::Heap;
 use space_model::CLIENTS;
@@ -22,6 +23,8 @@ pub struct State {
     pub verbs: Vec<Option<Verb>>,
     /// The names that are bound.
     pub names: Names,
+    /// How many calls have answered.
+    pub tally: Tally,
     /// The moment in nanoseconds.
     pub moment: u64,
     /// A buffer for the lines of calls and of their steps, which keeps its room from line to line.
@@ -36,19 +39,21 @@ impl State {
     ghost use Rattle.trace_text.specs.Grammar.{IsVerbWithinLimits};
     ghost use Rattle.replay_run.specs.Names.{address_at};
     ghost use Rattle.heap_core.specs.Heaps.{opening_heap};
-    ghost use Rattle.replay_run.specs.World.{arena_with, names_closed, region_request, request_of, take_in, target_of, verb_at, verbs_closed};
+    ghost use Rattle.replay_run.specs.World.{arena_with, names_closed, no_answers, region_request, request_of, take_in, tally_closed, target_of, verb_at, verbs_closed};
 
     /// The opening state of a replay.
     pub fn new(alloc: Global) -> Result<State, NoMemory>
         ensures heap { IfOk result (λ state. state.heap ≡ opening_heap) }
         ensures verbs { IfOk result (λ state. state.verbs.items ≡ replicate 32 None) }
         ensures names { IfOk result (λ state. state.names ≡ []) }
+        ensures tally { IfOk result (λ state. state.tally ≡ no_answers) }
         ensures moment { IfOk result (λ state. state.moment ≡ 0) }
     {
         Ok(State {
             heap: Heap::new(alloc)?,
             verbs: no_verbs(alloc)?,
             names: Names::new(alloc),
+            tally: Tally::new(),
             moment: 0,
             text: Vec::with_capacity(alloc, LINE_ROOM)?,
         })
@@ -68,6 +73,7 @@ impl State {
         ensures heap { self.new.heap ≡ self.old.heap }
         ensures verbs { self.new.verbs.items ≡ slice_set self.old.verbs.items client (Some verb) }
         ensures names { self.new.names ≡ self.old.names }
+        ensures tally { self.new.tally ≡ self.old.tally }
         ensures moment { self.new.moment ≡ self.old.moment }
     {
         self.verbs[client as usize] = Some(verb);
@@ -128,17 +134,20 @@ impl State {
         }
     }
 
-    /// Where a client's open call has its answer, it is open no more, and its name is bound, unless memory is wanting.
+    /// Where a client's open call has its answer, it is open no more, the answer is counted, and its name is bound, unless memory
+    /// is wanting.
     pub fn close(&mut self, client: u32, answer: &Option<Answered>) -> Result<(), NoMemory>
         requires { client < 32 }
         ensures heap { self.new.heap ≡ self.old.heap }
         ensures moment { self.new.moment ≡ self.old.moment }
         ensures verbs { OnOk result (self.new.verbs.items ≡ verbs_closed self.old.verbs.items client answer.now) }
         ensures names { OnOk result (self.new.names ≡ names_closed self.old.names (verb_at self.old.verbs.items client) answer.now) }
+        ensures tally { self.new.tally ≡ tally_closed self.old.tally answer.now }
     {
         let Some(answer) = answer else {
             return Ok(());
         };
+        self.tally.count(answer);
         match self.verbs[client as usize].take() {
             Some(verb) => self.names.bind_answer(verb, *answer),
             None => Ok(()),

@@ -61,6 +61,10 @@ no_arena_line index = codes "no arena " ++ decimal index ++ newline
 unfoldable pub bad_line : ℕ → Cause → List ℕ
 bad_line number cause = codes "line " ++ decimal number ++ codes ": " ++ cause_text cause ++ newline
 
+-- so many calls, of which so many answered Ok, and so many otherwise
+unfoldable pub calls_line : ℕ → ℕ → ℕ → List ℕ
+calls_line calls good failed = codes "calls " ++ decimal calls ++ codes " ok " ++ decimal good ++ codes " failed " ++ decimal failed ++ newline
+
 -- the word lists that there are
 unfoldable pub usage_line : List ℕ
 usage_line = codes "usage: jarena replay [--json] | threads [--journal] | soak START CALLS" ++ newline

@@ -15,5 +15,6 @@ mod rows;
 pub use causes::Cause;
 pub use heads::Head;
 pub use lines::{
-    ask_line, bad_line, call_line, counts_line, idle_line, no_arena_line, turn_line, usage_line,
+    ask_line, bad_line, call_line, calls_line, counts_line, idle_line, no_arena_line, turn_line,
+    usage_line,
 };

@@ -4,7 +4,7 @@ ghost use Rattle.std.specs.Prelude.{◌≡◌, ◌≤◌, ◌++◌, [], codes, l
 ghost use Rattle.call_plan.specs.declared.needs.Given.{Given};
 ghost use Rattle.report_text.specs.Heads.{head_name};
 ghost use Rattle.report_text.specs.Answers.{ended_text, given_text};
-ghost use Rattle.report_text.specs.Lines.{newline, call_line, turn_line, ask_line, idle_line, counts_line, no_arena_line, bad_line, usage_line};
+ghost use Rattle.report_text.specs.Lines.{newline, call_line, turn_line, ask_line, idle_line, counts_line, no_arena_line, bad_line, calls_line, usage_line};
 
 use crate::answers::{AnswerText, SaidText, kind, size};
 use crate::counts::{MappedText, UnusedText, UsedText};
@@ -157,6 +157,14 @@ pub fn bad_line(out: &mut Vec<u8>, number: u64, cause: Cause) -> Result<(), NoMe
     ensures { OnOk result (out.new.items ≡ out.old.items ++ bad_line number cause) }
 {
     writeln!(out, "line {number}: {cause}").map_err(no_memory)
+}
+
+/// The last line of a soak, of so many calls: `calls N`, how many of them answered Ok, and how many otherwise.
+#[tactic(auto, unfolding(crate::specs::Lines::calls_line))]
+pub fn calls_line(out: &mut Vec<u8>, calls: u64, good: u64, failed: u64) -> Result<(), NoMemory>
+    ensures { OnOk result (out.new.items ≡ out.old.items ++ calls_line calls good failed) }
+{
+    writeln!(out, "calls {calls} ok {good} failed {failed}").map_err(no_memory)
 }
 
 /// The line on words that are in no list that there is.

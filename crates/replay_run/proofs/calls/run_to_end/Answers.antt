@@ -5,10 +5,10 @@ use Rattle.replay_run.proofs.Stops.{goes_stop}
 use Rattle.replay_run.proofs.calls.run_to_end.Goals as goal
 
 pub returns-in_err-step_once-clause-goes : goal.returns-in_err-step_once-clause-goes
-returns-in_err-step_once-clause-goes g c = λ from count awaits at awaited shown so.
+returns-in_err-step_once-clause-goes g c = λ from lines awaits awaited shown so.
     let open_now : has_open_call c.steps.state.heap c.args.client ≡ true = sym c.has_call.ensures ∙ c.steps-test.true in
-    let here = rw (open_now, awaits_going awaits shown) at (c.steps.invariant.goes from count awaits at awaited shown so) in
-    goes_stop from count _ c.from_residual.result c.in_err-step_once.field-0.0 _ c.from_residual.ensures.1 (c.in_err-step_once.ensures.goes from count awaits at awaited shown here)
+    let here = rw (open_now, awaits_going awaits shown) at (c.steps.invariant.goes from lines awaits awaited shown so) in
+    goes_stop from lines _ c.from_residual.result c.in_err-step_once.field-0.0 _ c.from_residual.ensures.1 (c.in_err-step_once.ensures.goes from lines awaits awaited shown here)
 
 pub steps-smaller : goal.steps-smaller
 steps-smaller g c =
@@ -17,14 +17,14 @@ steps-smaller g c =
 
 pub steps-preserved : goal.steps-preserved
 steps-preserved g c = record {
-  goes = λ from count awaits at awaited shown so.
+  goes = λ from lines awaits awaited shown so.
       let open_now : has_open_call c.steps.state.heap c.args.client ≡ true = sym c.has_call.ensures ∙ c.steps-test.true in
-      let here = rw (open_now, awaits_going awaits shown) at (c.steps.invariant.goes from count awaits at awaited shown so) in
-      c.in_ok-step_once.ensures.goes from count awaits at awaited shown here;
+      let here = rw (open_now, awaits_going awaits shown) at (c.steps.invariant.goes from lines awaits awaited shown so) in
+      c.in_ok-step_once.ensures.goes from lines awaits awaited shown here;
   faults = omega (arith, c.steps.invariant.faults, c.step_once.ensures.counts);
 }
 
 pub returns-clause-goes : goal.returns-clause-goes
-returns-clause-goes g c = λ from count awaits at awaited shown so.
+returns-clause-goes g c = λ from lines awaits awaited shown so.
     let rests : has_open_call c.steps.state.heap c.args.client ≡ false = sym c.has_call.ensures ∙ c.steps-test.false in
-    rw rests at (c.steps.invariant.goes from count awaits at awaited shown so)
+    rw rests at (c.steps.invariant.goes from lines awaits awaited shown so)

@@ -1,0 +1,23 @@
+-- The lists of words exclude each other.
+use Rattle.std.proofs.Common.{◌≡◌, ℕ, List, [], ◌∷◌, get_or, length, sym, ◌∙◌, ap, arith}
+use Rattle.std.proofs.lemmas.Fmt.{decimal_injective}
+use Rattle.jarena.specs.Words.{IsInNoList, IsReplay, IsSoak}
+
+-- words of a replay are none of a soak
+pub replay_no_soak : (words : List (List ℕ)) (start calls : ℕ) → IsReplay words → IsSoak words start calls → ⊥
+replay_no_soak words start calls replay soak = absurd (omega (arith, ap length (sym replay ∙ soak.0)))
+
+-- words of a list are in a list
+pub replay_in_list : (words : List (List ℕ)) → IsReplay words → IsInNoList words → ⊥
+replay_in_list words replay none = none.0 replay
+
+pub soak_in_list : (words : List (List ℕ)) (start calls : ℕ) → IsSoak words start calls → IsInNoList words → ⊥
+soak_in_list words start calls soak none = none.1 start calls soak
+
+-- words of a soak tell its start and how many calls
+pub soak_start : (words : List (List ℕ)) (start calls start' calls' : ℕ) → IsSoak words start calls → IsSoak words start' calls' → start ≡ start'
+soak_start words start calls start' calls' soak soak' = decimal_injective start start' soak.1 soak'.1 (ap (λ (ws : List (List ℕ)). get_or ws 1 []) (sym soak.0 ∙ soak'.0))
+
+pub soak_calls : (words : List (List ℕ)) (start calls start' calls' : ℕ) → IsSoak words start calls → IsSoak words start' calls' → calls ≡ calls'
+soak_calls words start calls start' calls' soak soak' =
+    decimal_injective calls calls' (omega (arith, soak.2)) (omega (arith, soak'.2)) (ap (λ (ws : List (List ℕ)). get_or ws 2 []) (sym soak.0 ∙ soak'.0))
