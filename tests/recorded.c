@@ -1,6 +1,7 @@
 /* Three threads that begin together and make known calls, and each of them a fork in between; tests/recording compares their
  * trace with tests/recorded.calls. With the word `many` instead: more regions alive at once than the recorder has places for at
- * first, of which every other one is freed then. */
+ * first, of which every other one is freed then. With `lots`: more lines than its file has room for at first. With `slow`: a call
+ * each 20 ms, in two threads. */
 #define _GNU_SOURCE
 #include <malloc.h>
 #include <pthread.h>
@@ -10,7 +11,7 @@
 #include <sys/wait.h>
 #include <unistd.h>
 
-enum { THREADS = 3, MANY = 40000 };
+enum { THREADS = 3, MANY = 5000, LOTS = 400000 };
 
 static pthread_barrier_t begins, ends;
 static void *kept[MANY];
@@ -76,10 +77,31 @@ static int many(void) {
     return 0;
 }
 
+static int lots(void) {
+    for (int i = 0; i < LOTS; i++)
+        free(malloc(24));
+    return 0;
+}
+
+static void *slow(void *argument) {
+    for (int i = 0; i < 5; i++) {
+        free(malloc(3000));
+        usleep(20000);
+    }
+    return argument;
+}
+
+static int slow_twice(void) {
+    pthread_t thread;
+    pthread_create(&thread, NULL, slow, NULL);
+    slow(NULL);
+    pthread_join(thread, NULL);
+    return 0;
+}
+
 int main(int count, char **words) {
-    (void)words;
     if (count > 1)
-        return many();
+        return words[1][0] == 'm' ? many() : words[1][0] == 'l' ? lots() : slow_twice();
     pthread_t threads[THREADS];
     pthread_barrier_init(&begins, NULL, THREADS);
     pthread_barrier_init(&ends, NULL, THREADS);
