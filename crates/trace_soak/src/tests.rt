@@ -14,7 +14,7 @@ fn the_lines_of_start_0_are_drawn(rt: HostRuntime) -> Result<(), Fail> {
     }
     assert_eq!(rt; lines.len(), 61);
     let mut last = None;
-    while lines.len() > 0 {
+    for _ in 0..61 {
         last = lines.next_line(alloc)?;
     }
     assert_eq!(rt; last, read(alloc, b"t0 purge 0").ok());
