@@ -31,6 +31,11 @@ fn comes_to(name: &str, wish: Wish) -> &'static str {
     }
 }
 
+/// What a write of a value to a control comes to.
+fn write_comes_to(name: &str, value: &str) -> &'static str {
+    comes_to(name, Wish::Write(value.as_bytes()))
+}
+
 #[test]
 fn each_name_is_read_and_written(rt: HostRuntime) {
     let lines: [(&str, &str, &str, &str); 54] = [
@@ -106,11 +111,7 @@ fn each_name_is_read_and_written(rt: HostRuntime) {
     ];
     for (name, plain, value, written) in lines {
         assert_eq!(rt; comes_to(name, Wish::Plain), plain, "{name}");
-        assert_eq!(rt;
-            comes_to(name, Wish::Write(value.as_bytes())),
-            written,
-            "{name} = {value}"
-        );
+        assert_eq!(rt; write_comes_to(name, value), written, "{name} = {value}");
     }
 }
 
