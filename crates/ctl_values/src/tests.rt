@@ -31,9 +31,12 @@ fn comes_to(name: &str, wish: Wish) -> &'static str {
     }
 }
 
-/// What a write of a value to a control comes to.
-fn write_comes_to(name: &str, value: &str) -> &'static str {
-    comes_to(name, Wish::Write(value.as_bytes()))
+/// What a plain line of a control comes to, and a write of a value to it.
+fn both(name: &str, value: &str) -> [&'static str; 2] {
+    [
+        comes_to(name, Wish::Plain),
+        comes_to(name, Wish::Write(value.as_bytes())),
+    ]
 }
 
 #[test]
@@ -110,8 +113,7 @@ fn each_name_is_read_and_written(rt: HostRuntime) {
         ("tcache.create", "ENOENT", "0", "ENOENT"),
     ];
     for (name, plain, value, written) in lines {
-        assert_eq!(rt; comes_to(name, Wish::Plain), plain, "{name}");
-        assert_eq!(rt; write_comes_to(name, value), written, "{name} = {value}");
+        assert_eq!(rt; both(name, value), [plain, written]);
     }
 }
 
