@@ -1,5 +1,5 @@
 -- The least chunk of a granted span that has an owner, where no extent meets any of its chunks.
-use Rattle.arena_core.proofs.Words.{◌≡◌, ℕ, ◌+◌, ◌*◌, ◌<◌, ◌≤◌, zero, suc, false, List, find, Option, None, Some, refl, arith, nat_tests, ◌&&◌, cond, eqb, nat_le, nat_lt, list_any, range_with_len, Part, Span, meets, chunk_span, list_any_none}
+use Rattle.arena_core.proofs.Words.{◌≡◌, ℕ, ◌+◌, ◌*◌, ◌<◌, ◌≤◌, zero, suc, false, List, find, Option, None, Some, refl, arith, nat_tests, ◌&&◌, cond, nat_le, nat_lt, list_any, range_with_len, Part, meets, chunk_span, list_any_none}
 use Rattle.list_facts.proofs.Members.{all_from, any_false}
 use Rattle.space_model.specs.Step.{is_found, is_owned}
 

@@ -16,3 +16,4 @@ pub mod BookLands
 pub mod Rounds
 pub mod Totals
 pub mod Granted
+pub mod Lookups

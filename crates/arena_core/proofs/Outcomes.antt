@@ -1,5 +1,5 @@
 -- What a step leaves: its outcome for the space, and the body as it shall be.
-use Rattle.arena_core.proofs.Words.{◌≡◌, ◌≢◌, ◌∙◌, ◌⊎◌, inl, inr, ℕ, ◌<◌, IsTrue, List, [], ◌∷◌, ◌++◌, nat_lt, Result, Ok, Err, IfOk, OnOk, OnErr, length, refl, sym, ap, subst, arith, ltb-true, get_or-set_other, get_or-set_same, length-set, Entry, Op, Reply, Space, op_stands, reply_to, space_after, stands, Sound, absent_space, first_space, new_pace, Good, mine, both_true, Outcome, Outcome-good, Outcome-others, Outcome-sound, absent_replays_are_good, first_replays_are_good, Body, IsBody, Standing, entry_of, Turns, room_after, room_of, rooms_after, standing_of, space_of}
+use Rattle.arena_core.proofs.Words.{◌≡◌, ◌≢◌, ◌∙◌, ◌⊎◌, inl, inr, ℕ, ◌<◌, IsTrue, List, [], ◌∷◌, ◌++◌, nat_lt, Result, Ok, Err, IfOk, OnOk, OnErr, length, refl, sym, ap, subst, arith, nat_tests, ltb-true, get_or-set_other, get_or-set_same, length-set, Entry, Op, Reply, Space, op_stands, reply_to, space_after, stands, Sound, absent_space, first_space, new_pace, Good, mine, both_true, Outcome, Outcome-good, Outcome-others, Outcome-sound, absent_replays_are_good, first_replays_are_good, Body, IsBody, Standing, entry_of, Turns, room_after, room_of, rooms_after, rooms_made, standing_of, space_of}
 
 -- What a step leaves of a body that callers see as `a`.
 pub record Stepped {E : Type 0} (a : Standing) (new : Body) (client : ℕ) (op : Op) (r : Result Reply E) : Type 0 where
@@ -49,6 +49,34 @@ stepped {E} {old} {new} {a} {r} client op view body stands_now t =
       λ other differ. ap (λ (x : Standing). room_of other x.rooms) k,
       ap (λ (x : Standing). x.space) k,
     )
+
+-- What is left of a body that callers see as `a` once room was made for a client.
+pub record RoomMade {V E : Type 0} (a : Standing) (new : Body) (client : ℕ) (r : Result V E) : Type 0 where
+  pub space : space_of new.indexes ≡ a.space
+  pub room : OnOk r (0 < room_of client new.rooms)
+  pub other_rooms : (other : ℕ) → other ≢ client → room_of other new.rooms ≡ room_of other a.rooms
+  pub rooms : OnOk r (new.rooms ≡ rooms_made client a.rooms)
+  pub err : OnErr r (standing_of new ≡ a)
+
+pub room_made : {V E : Type 0} {a : Standing} (old new : Body) (r : Result V E) (client : ℕ) → standing_of old ≡ a → length old.rooms ≡ 32 → client < 32 →
+    space_of new.indexes ≡ space_of old.indexes → OnOk r (new.rooms ≡ rooms_made client old.rooms) → OnErr r (standing_of new ≡ standing_of old) → RoomMade a new client r
+room_made {V} {E} {a} old new r client view clients few space rooms err =
+    subst (λ x. RoomMade x new client r) view (record { space = space; room = some r rooms; other_rooms = others r rooms err; rooms = rooms; err = err })
+  where
+    inside : client < length old.rooms
+    inside = omega arith
+
+    some : (r : Result V E) → OnOk r (new.rooms ≡ rooms_made client old.rooms) → OnOk r (0 < room_of client new.rooms)
+    some (Ok v) h =
+        let made : 0 < room_of client (rooms_made client old.rooms) = grind (arith, nat_tests, get_or-set_same old.rooms client 16 0 inside) in
+        subst (λ rs. 0 < room_of client rs) (sym h) made
+    some (Err e) h = tt
+
+    others : (r : Result V E) → OnOk r (new.rooms ≡ rooms_made client old.rooms) → OnErr r (standing_of new ≡ standing_of old) → (other : ℕ) → other ≢ client → room_of other new.rooms ≡ room_of other old.rooms
+    others (Ok v) h k other differ =
+        let kept : room_of other (rooms_made client old.rooms) ≡ room_of other old.rooms = grind (arith, nat_tests, get_or-set_other old.rooms client other 16 0 differ) in
+        ap (room_of other) h ∙ kept
+    others (Err e) h k other differ = ap (λ (x : Standing). room_of other x.rooms) k
 
 -- the space of an arena that begins is sound
 abbrev opened : Space → Space

@@ -25,7 +25,7 @@ holder_is : (c : ℕ) (o : Option ℕ) → is_held_by c (record { addr = 0; clas
 holder_is c None h = absurd (cc)
 holder_is c (Some d) h = ap (λ n. Some n) (eqb-true d c h)
 
-homed_by : (c addr : ℕ) (s : Space) (test : Part → Bool) (o : Option (Region × Part)) → large_home s c addr ≡ o → Sound s → found_passes test (option_map (λ home. home.1) o) ≡ true →
+pub homed_by : (c addr : ℕ) (s : Space) (test : Part → Bool) (o : Option (Region × Part)) → large_home s c addr ≡ o → Sound s → found_passes test (option_map (λ home. home.1) o) ≡ true →
     (home : Region × Part) × Homed c addr s test home
 homed_by c addr s test None e sound h = absurd (cc)
 homed_by c addr s test (Some home) e sound h =

@@ -1,5 +1,5 @@
 -- Extents of which one is changed where it lies, and one more that meets none.
-use Rattle.arena_core.proofs.Words.{◌≡◌, ℕ, ◌+◌, ◌-◌, ◌<◌, ◌≤◌, Bool, true, false, not, cond, List, [], ◌∷◌, filter, refl, sym, ap, subst, arith, All, inl, inr, list_any, sum_by, cases_lt, nat_tests, sum_by-cons, All-cons, All-nil, Part, Span, IsPlaced, has_page, meets, begins_at, exchanged, holders, All-exchanged, find_has, share, sum_by-replaced, some_pages, IsApart, IsThere, get_or-le-sum_by, sum_by-filter_both, list_any_none, false_from_ne_true, get_or}
+use Rattle.arena_core.proofs.Words.{◌≡◌, ℕ, ◌+◌, ◌≤◌, Bool, false, not, cond, List, [], ◌∷◌, filter, refl, sym, ap, subst, arith, All, list_any, sum_by, sum_by-cons, All-cons, All-nil, Part, IsPlaced, has_page, meets, begins_at, exchanged, holders, All-exchanged, find_has, share, sum_by-replaced, some_pages, IsApart, IsThere, get_or-le-sum_by, sum_by-filter_both, list_any_none, false_from_ne_true, get_or}
 use Rattle.part_book.proofs.Rowed.{share_page}
 
 -- an extent that is there lies in the space

@@ -61,7 +61,7 @@ pub use Rattle.space_model.specs.Counts.{counts_of, slabs_by_class}
 pub use Rattle.space_model.specs.Purging.{keep_offer}
 pub use Rattle.space_model.specs.Resizing.{trim_answered}
 pub use Rattle.space_model.specs.Step.{taken_in_order}
-pub use Rattle.arena_core.specs.Arenas.{all_rooms, emptied_by_return, Standing, emptied_by_op, given_by, is_return, opens, IsBody, IsReady, Turns, entry_of, room_after, room_of, rooms_after, standing_of}
+pub use Rattle.arena_core.specs.Arenas.{all_rooms, emptied_by_return, Standing, emptied_by_op, given_by, is_return, opens, IsBody, IsReady, Turns, entry_of, room_after, room_of, rooms_after, rooms_made, standing_of}
 pub use Rattle.arena_core.specs.Booked.{LandsTakeTheFirst, booked_slab, AreBooked, BooksStayWhereHoldersChange, BooksStayWhileExtentsDo, FillsTakeTheLowest, ReturnsAreFree, filled, OrderGrows, OrderStays}
 pub use Rattle.part_book.specs.Rows.{IsApart}
 pub use Rattle.arena_core.specs.Ends.{goes_to}

@@ -1,5 +1,5 @@
 -- What callers see of an arena, and the room that its clients have.
-use Rattle.std.specs.Prelude.{◌≡◌, ℕ, ◌-◌, ◌*◌, ◌≤◌, Bool, true, false, List, filter, length, max, slice_index_or, slice_set, Result, OnOk, IfOk, OnErr, if◌then◌else◌}
+use Rattle.std.specs.Prelude.{◌≡◌, ℕ, ◌-◌, ◌*◌, ◌≤◌, ◌==◌, Bool, true, false, List, filter, length, max, slice_index_or, slice_set, Result, OnOk, IfOk, OnErr, if◌then◌else◌}
 use Rattle.std.specs.List.{sum_by}
 use Rattle.space_model.specs.declared.entries.Entry.{Entry}
 use Rattle.space_model.specs.declared.entries.Op.{Op}
@@ -76,6 +76,10 @@ room_after s room client op = if opens op then max (max room 16) (16 * emptied_b
 -- the rooms after an operation: that of the client alone changes
 abbrev pub rooms_after : Standing → ℕ → Op → List ℕ
 rooms_after a client op = slice_set a.rooms client (room_after a.space (room_of client a.rooms) client op)
+
+-- the rooms after room was made for a client: 16, where it had none
+abbrev pub rooms_made : ℕ → List ℕ → List ℕ
+rooms_made client rooms = if room_of client rooms == 0 then slice_set rooms client 16 else rooms
 
 -- an operation of a client as an entry
 abbrev pub entry_of : ℕ → Op → Entry

@@ -53,7 +53,7 @@ pub fn put_look(indexes: &mut Indexes, client: u32, span: Span, tries: u8) -> Re
     let Some(part) = indexes.extents.flight(client, span) else {
         return Reply::Noted;
     };
-    match indexes.extents.neighbour(tries, &part) {
+    match indexes.extents.mergeable(tries, &part) {
         Some(other) => take_out(indexes, client, &part, other),
         None => put_down(indexes, client, part),
     }
@@ -77,7 +77,7 @@ pub fn merge_done(indexes: &mut Indexes, client: u32, heard: Heard, own_low: boo
     };
     match heard.answer {
         Answer::Done => {
-            indexes.extents.join(&low, &high);
+            indexes.extents.merge(&low, &high);
             Reply::Joined(Span {
                 first: low.span.first,
                 pages: low.span.pages + high.span.pages,

@@ -10,7 +10,7 @@ ghost use Rattle.space_model.specs.Sound.{Sound};
 ghost use Rattle.space_model.specs.Journal.{Good};
 ghost use Rattle.space_model.specs.Own.{mine};
 ghost use Rattle.space_model.specs.Counts.{counts_of};
-ghost use Rattle.arena_core.specs.Arenas.{all_rooms, emptied_by_op, entry_of, given_by, opens, room_after, room_of, rooms_after};
+ghost use Rattle.arena_core.specs.Arenas.{all_rooms, emptied_by_op, entry_of, given_by, opens, room_after, room_of, rooms_after, rooms_made};
 
 mod ends;
 mod fills;
@@ -26,6 +26,7 @@ mod readers;
 mod resizes;
 mod rooms;
 mod settings;
+mod stands;
 mod steps;
 
 use decay_curve::Decay;
@@ -108,6 +109,28 @@ impl Arena {
         ensures others { (other : ℕ) → other ≢ client → mine other self.new.space ≡ mine other self.old.space }
     {
         steps::step(&mut self.body, client, op)
+    }
+
+    /// Whether an operation of a client may come next, by look-ups: what may stand, `step` carries out where the client has
+    /// room for it.
+    pub fn may_stand(&self, client: u32, op: &Op) -> bool
+        ensures stands { result ≡ stands self.now.space (entry_of client op.now) }
+        ensures client { IsTrue result → client < 32 }
+    {
+        stands::may_stand(&self.body.indexes, client, op)
+    }
+
+    /// Makes room for 16 operations of a client that take no memory, where it has no room left. The space stays, and the
+    /// rooms of the other clients. Where memory is wanting, nothing changes.
+    pub fn make_room(&mut self, client: u32) -> Result<(), NoMemory>
+        requires { client < 32 }
+        ensures space { self.new.space ≡ self.old.space }
+        ensures room { OnOk result (0 < room_of client self.new.rooms) }
+        ensures other_rooms { (other : ℕ) → other ≢ client → room_of other self.new.rooms ≡ room_of other self.old.rooms }
+        ensures rooms { OnOk result (self.new.rooms ≡ rooms_made client self.old.rooms) }
+        ensures err { OnErr result (self.new ≡ self.old) }
+    {
+        steps::make_room(&mut self.body, client)
     }
 
     /// Whether an operation is the first one of a unit, for which memory is taken.

@@ -1,7 +1,7 @@
 //! The extents that are offered to a dalloc hook.
 
-ghost use Rattle.std.specs.Prelude.{◌≡◌, ℕ, ◌+◌, ◌<◌, ◌≤◌, ◌^◌, [], ◌∷◌, ◌++◌, length, OnOk};
-ghost use Rattle.std.specs.List.{position};
+ghost use Rattle.std.specs.Prelude.{◌≡◌, ℕ, ◌+◌, ◌==◌, ◌<◌, ◌≤◌, ◌^◌, [], ◌∷◌, ◌++◌, length, OnOk};
+ghost use Rattle.std.specs.List.{list_any, position};
 ghost use Rattle.space_model.specs.Purging.{is_offer, without_offer};
 
 use space_model::{Offered, Span};
@@ -41,6 +41,21 @@ impl OfferList {
         self.offers.len() as u64
     }
 
+    /// Whether the client has offered the span, committed or not.
+    pub fn contains(&self, client: u32, span: Span, committed: bool) -> bool
+        ensures { result ≡ list_any (is_offer client span committed) self.now.offers }
+    {
+        let mut all = self.offers.iter();
+        all.any(|offer| is_offer(offer, client, span, committed))
+    }
+
+    /// Whether the client has made an offer that isn't answered.
+    pub fn has_any_of(&self, client: u32) -> bool
+        ensures { result ≡ list_any (λ o. o.client == client) self.now.offers }
+    {
+        self.offers.iter().any(|offer| offer.client == client)
+    }
+
     /// Makes places for at least `more` further offers. The offers stay.
     pub fn reserve(&mut self, more: u64) -> Result<(), NoMemory>
         ensures offers { self.new.offers ≡ self.old.offers }
@@ -71,11 +86,17 @@ impl OfferList {
     }
 }
 
+/// Whether it is the client's offer of the span, committed or not.
+fn is_offer(offer: &Offered, client: u32, span: Span, committed: bool) -> bool
+    ensures { result ≡ is_offer client span committed offer.now }
+{
+    offer.client == client && offer.span == span && offer.committed == committed
+}
+
 /// The place of the client's first offer of the span, committed or not.
 fn place_of(offers: &[Offered], client: u32, span: Span, committed: bool) -> Option<usize>
     ensures { result ≡ position (is_offer client span committed) offers.now }
 {
-    offers.iter().position(|offer| {
-        offer.client == client && offer.span == span && offer.committed == committed
-    })
+    let mut all = offers.iter();
+    all.position(|offer| is_offer(offer, client, span, committed))
 }

@@ -71,7 +71,7 @@ fn join_home(indexes: &mut Indexes, client: u32, low: Span, high: &Part, class: 
 {
     let part = indexes.extents.at(low.first);
     let first = PAGE_BYTES * low.first;
-    indexes.extents.join(&part, high);
+    indexes.extents.merge(&part, high);
     indexes.regions.reclass(client, low.first, class);
     Reply::Landed { first, count: 1 }
 }

@@ -3,7 +3,7 @@
 ghost use Rattle.std.specs.Prelude.{◌≡◌, ℕ, ◌+◌, ◌*◌, ◌<◌, ◌≤◌, ◌^◌, false, true, length, max, IsTrue, IsOk, IfOk, OnOk, OnErr, slice_set};
 ghost use Rattle.space_model.specs.Step.{op_stands, step_of};
 ghost use Rattle.space_model.specs.Sound.{Sound};
-ghost use Rattle.arena_core.specs.Arenas.{IsBody, IsReady, Turns, all_rooms, emptied_by_op, given_by, is_return, may_fail, opens, room_of, rooms_after, standing_of};
+ghost use Rattle.arena_core.specs.Arenas.{IsBody, IsReady, Turns, all_rooms, emptied_by_op, given_by, is_return, may_fail, opens, room_of, rooms_after, rooms_made, standing_of};
 ghost use Rattle.arena_core.specs.Indexes.{Does, HasPlaces, space_of};
 ghost use Rattle.arena_core.specs.Slabs.{CanFollow, IsBooked, slabs_begun, slabs_followed};
 
@@ -44,6 +44,24 @@ fn make_places(body: &mut Body, client: u32, room: u64) -> Result<(), NoMemory>
         indexes::reserve(&mut body.indexes, places)?;
         body.ready = places;
     }
+    Ok(())
+}
+
+/// Makes room for 16 operations of a client that take no memory, where it has no room left. Where memory is wanting nothing
+/// changes.
+pub fn make_room(body: &mut Body, client: u32) -> Result<(), NoMemory>
+    requires client { client < 32 }
+    requires body { IsBody body.old }
+    ensures body { IsBody body.new }
+    ensures space { space_of body.new.indexes ≡ space_of body.old.indexes }
+    ensures rooms { OnOk result (body.new.rooms ≡ rooms_made client body.old.rooms) }
+    ensures err { OnErr result (standing_of body.new ≡ standing_of body.old) }
+{
+    if body.rooms.of(client) > 0 {
+        return Ok(());
+    }
+    make_places(body, client, UNIT)?;
+    body.rooms.set(client, UNIT);
     Ok(())
 }
 

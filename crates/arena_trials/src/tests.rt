@@ -1,5 +1,6 @@
 //! An arena beside a space that is moved by scans: scripts, random operations, and what is read of it.
 
+mod asks;
 mod bins;
 mod decays;
 mod draws;
@@ -64,4 +65,11 @@ fn random_operations_are_carried_out_as_by_scans(rt: HostRuntime) {
         stood = stood.saturating_add(draws::turns_of(&rt, rt.alloc(), seed));
     }
     assert!(rt; stood >= 100000, "{stood} stood");
+}
+
+#[test]
+fn operations_stand_as_by_scans(rt: HostRuntime) {
+    let mut trial = Trial::of_first(&rt, rt.alloc());
+    let stood = asks::ask_on(&rt, rt.alloc(), &mut trial, 3, 3000);
+    assert!(rt; stood >= 800, "{stood} may stand");
 }

@@ -24,6 +24,10 @@ member_there parts p apart m =
 pub found_there : (parts : List Part) (test : Part → Bool) (p : Part) → IsApart parts → find test parts ≡ Some p → IsThere parts p
 found_there parts test p apart e = member_there parts p apart (found test parts p e).0
 
+-- what begins at a page has it as its first one
+pub found_first : (parts : List Part) (first : ℕ) (p : Part) → find (begins_at first) parts ≡ Some p → p.span.first ≡ first
+found_first parts first p e = let t = (found (begins_at first) parts p e).1 in grind (arith, nat_tests, t)
+
 -- what may be found is there, where each extent that may be is there inside
 inside : {b now : Book} (o : Option Part) → b ≡ now → ((p : Part) → o ≡ Some p → IsThere b.parts p) → IfSome o (IsThere now.parts)
 inside None view each = tt

@@ -17,6 +17,7 @@ use space_model::{Part, Rest, Span, State};
 use std::alloc::{AllocError as NoMemory, Global};
 use std::marker::Model;
 
+mod by_page;
 mod changes;
 mod finds;
 mod rows;
@@ -25,7 +26,8 @@ mod table;
 /// The extents of an arena, in the order in which each took its present span, state and commit
 /// state.
 ///
-/// An extent that a call is given must be there: the one that begins where it does. Each look-up searches a few ordered sets or reads a page's
+/// An extent that a call is given must be there: the one that begins where it does. What is changed at a page by `set_state`, `cut`, `shed`,
+/// `join` and `drop_part` is changed at the extent that begins there. Each look-up searches a few ordered sets or reads a page's
 /// entry in a table, and scans no list of extents; only `next_flight` goes through those in flight,
 /// which are few. [`PartBook::reserve`] makes room for a number of further extents, whatever their
 /// pages and states. An extent lies in the pages of the space, and no page is in two.
@@ -101,10 +103,11 @@ impl PartBook {
     }
 
     /// The extent that begins at a page, where one does.
-    #[tactic(auto, using(crate::proofs::Searches::found_there))]
+    #[tactic(auto, using(crate::proofs::Searches::found_there, crate::proofs::Searches::found_first))]
     pub fn at(&self, first: u64) -> Part
         requires { IsSome (find (begins_at first) self.now.parts) }
         ensures at { find (begins_at first) self.now.parts ≡ Some result }
+        ensures first { result.span.first ≡ first }
         ensures there { IsThere self.now.parts result }
     {
         self.table.look(first).copied().unwrap()
@@ -155,7 +158,7 @@ impl PartBook {
     }
 
     /// The extent right after a span, or the one right before it.
-    pub fn beside(&self, span: Span, right: bool) -> Option<&Part>
+    pub fn neighbour(&self, span: Span, right: bool) -> Option<&Part>
         ensures { option_copied result ≡ find (is_beside span right) self.now.parts }
     {
         self.table.beside(span, right)
@@ -179,8 +182,8 @@ impl PartBook {
 
     /// The neighbour that a merge may join to an extent: the right one at the first try, and the
     /// left one at the first two.
-    pub fn neighbour(&self, tries: u8, part: &Part) -> Option<Part>
-        ensures neighbour { result ≡ neighbour tries part.now self.now.parts }
+    pub fn mergeable(&self, tries: u8, part: &Part) -> Option<Part>
+        ensures mergeable { result ≡ neighbour tries part.now self.now.parts }
         ensures there { IfSome result (IsThere self.now.parts) }
     {
         if tries == 0
@@ -329,7 +332,7 @@ impl PartBook {
 
     /// Makes an extent of its own, in another state, of the pages behind the first `left`. The first pages come last, behind
     /// it. It takes a place.
-    fn shed(&mut self, part: &Part, left: u64, state: State)
+    fn shed_high(&mut self, part: &Part, left: u64, state: State)
         requires { CanCut self.old part.now left }
         ensures parts { self.new.parts ≡ exchanged (begins_at part.now.span.first) self.old.parts
             (record (high_piece left part.now) { state = state } ∷ low_piece left part.now ∷ []) }
@@ -356,7 +359,7 @@ impl PartBook {
     {
         let down = part.state.rest().state();
         if keep_low {
-            self.shed(part, left, down);
+            self.shed_high(part, left, down);
         } else {
             self.halve(part, left, down, part.state);
         }
@@ -376,7 +379,7 @@ impl PartBook {
     /// Makes one of two extents side by side, with the first one's state and commit state. It comes last. The place of the
     /// other one counts again after the next `reserve`.
     #[inline(always)]
-    pub fn join(&mut self, low: &Part, high: &Part)
+    pub fn merge(&mut self, low: &Part, high: &Part)
         requires low { IsThere self.old.parts low.now }
         requires high { IsThere self.old.parts high.now }
         requires beside { AreBeside low.now high.now }

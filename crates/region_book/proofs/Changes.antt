@@ -1,5 +1,5 @@
 -- What is told of regions by address: what a client gives back, what is published, and what can come.
-use Rattle.region_book.proofs.Words.{◌≡◌, ℕ, ◌+◌, ◌*◌, ◌≤◌, Bool, true, false, not, eqb, eqb-true, List, [], ◌∷◌, length, filter, find, Option, None, Some, refl, sym, ◌∙◌, ap, arith, ◌&&◌, count_by, Contains, list_any, nat_tests, sum_by-cons, size_at, Region, is_held_by, is_held_by_other, landing, region_of, regions_from, starts_at, is_published_at, holds_at, is_given_back, staying, AreDistinct, AreNew, IsRising, code_of, distinct_new, found_alone, member_found, any_from, bit, filter_same, find_closer, found, addr_of, if_published}
+use Rattle.region_book.proofs.Words.{◌≡◌, ℕ, ◌+◌, ◌*◌, ◌≤◌, Bool, true, false, not, eqb, eqb-true, List, [], ◌∷◌, length, filter, find, Option, None, Some, is_some, refl, sym, ◌∙◌, ap, arith, ◌&&◌, count_by, Contains, list_any, nat_tests, sum_by-cons, size_at, Region, is_held_by, is_held_by_other, landing, region_of, regions_from, starts_at, is_published_at, holds_at, is_given_back, staying, AreDistinct, AreNew, IsRising, code_of, distinct_new, found_alone, member_found, any_from, bit, filter_same, find_closer, is_some_find, found, addr_of, found_held, if_published}
 use Rattle.space_model.proofs.Pieces.{both_true}
 use Rattle.region_book.proofs.Tallies.{landing_sum}
 
@@ -60,6 +60,32 @@ published addr rs rising = by (find (starts_at addr) rs) refl
     by : (o : Option Region) → find (starts_at addr) rs ≡ o → find (is_published_at addr) rs ≡ if_published o
     by None e = find_closer (is_published_at addr) (starts_at addr) rs (λ x m. closer x) own None e
     by (Some y) e = let t = (found (starts_at addr) rs y e).1 in find_closer (is_published_at addr) (starts_at addr) rs (λ x m. closer x) own (Some y) e ∙ grind (arith, t)
+
+-- a client holds a region at an address where it holds the one that begins there
+pub held_there : (c addr : ℕ) (rs : List Region) → IsRising addr_of rs → holds_at c rs addr ≡ found_held c (find (starts_at addr) rs)
+held_there c addr rs rising = sym (is_some_find test rs) ∙ by (find (starts_at addr) rs) refl
+  where
+    test : Region → Bool
+    test r = is_held_by c r && starts_at addr r
+
+    closer : (x : Region) → test x ≡ true → starts_at addr x ≡ true
+    closer x t = (both_true (is_held_by c x) (starts_at addr x) t).1
+
+    own : (x y : Region) → Contains rs x → Contains rs y → starts_at addr x ≡ true → starts_at addr y ≡ true → y ≡ x
+    own x y m n t u = same_region rs y x rising n m (eqb-true _ _ u ∙ sym (eqb-true _ _ t))
+
+    by : (o : Option Region) → find (starts_at addr) rs ≡ o → is_some (find test rs) ≡ found_held c o
+    by None e = ap is_some (find_closer test (starts_at addr) rs (λ x m. closer x) own None e)
+    by (Some y) e = let t = (found (starts_at addr) rs y e).1 in ap is_some (find_closer test (starts_at addr) rs (λ x m. closer x) own (Some y) e) ∙ grind (arith, t)
+
+-- the regions of a client's code are those that it holds
+pub held_coded : (client : ℕ) (rs : List Region) → count_by (λ r. eqb (code_of r.holder) (client + 1)) rs ≡ count_by (is_held_by client) rs
+held_coded client [] = refl
+held_coded client (r ∷ rs) = omega (arith, held_coded client rs, sum_by-cons (λ (q : Region). bit (eqb (code_of q.holder) (client + 1))) r rs, sum_by-cons (λ (q : Region). bit (is_held_by client q)) r rs, here r.holder)
+  where
+    here : (o : Option ℕ) → bit (eqb (code_of o) (client + 1)) ≡ bit (is_held_by client (record { addr = r.addr; class = r.class; holder = o }))
+    here None = grind (arith, nat_tests)
+    here (Some c) = grind (arith, nat_tests)
 
 -- every region is held by nobody, by a client, or by another one
 pub all_held : (client : ℕ) (rs : List Region) → count_by (λ r. eqb (code_of r.holder) 0) rs + count_by (λ r. eqb (code_of r.holder) (client + 1)) rs + count_by (is_held_by_other client) rs ≡ length rs

@@ -13,7 +13,7 @@ pub use Rattle.list_facts.specs.ByKey.{AreApart, IsRising, changed, AreDistinct,
 pub use Rattle.list_facts.specs.Codes.{code_of}
 pub use Rattle.ordered_set.proofs.Sorted.{every_map, every_filter}
 pub use Rattle.region_book.specs.Books.{IsRegionBook, all_regions}
-pub use Rattle.region_book.specs.RegionLists.{CanCome, IsOf, if_published, Regions}
+pub use Rattle.region_book.specs.RegionLists.{CanCome, IsOf, found_held, if_published, Regions}
 pub use Rattle.region_book.specs.Slabs.{is_last, slabs_returned}
 pub use Rattle.region_book.specs.Totals.{AreMore, AreTotals, CanGrow, CanShrink, IsMoreAt, small_size_at}
 pub use Rattle.region_book.specs.declared.RegionBook.TheInside.{Inside}

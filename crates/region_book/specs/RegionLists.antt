@@ -1,9 +1,9 @@
 -- The regions of an arena as contracts see them, by address.
-use Rattle.std.specs.Prelude.{◌≡◌, ℕ, ◌+◌, ◌<◌, ◌≤◌, ◌^◌, false, List, count_by, Option, None, Some, if◌then◌else◌}
+use Rattle.std.specs.Prelude.{◌≡◌, ℕ, ◌+◌, ◌<◌, ◌≤◌, ◌^◌, Bool, false, List, count_by, Option, None, Some, if◌then◌else◌}
 use Rattle.std.specs.List.{list_any}
 use Rattle.size_classes.specs.Classes.{pages_at, regions_at}
 use Rattle.space_model.specs.declared.parts.Region.{Region}
-use Rattle.space_model.specs.Region.{is_published, landing, starts_at}
+use Rattle.space_model.specs.Region.{is_held_by, is_published, landing, starts_at}
 use Rattle.region_book.specs.Larges.{IsHolder}
 use Rattle.space_model.specs.Counts.{region_bytes}
 use Rattle.bin_book.specs.Bins.{BinSlab, meets_slab}
@@ -30,6 +30,11 @@ pub record CanBeSlab (class first count : ℕ) (slabs : List BinSlab) : Type 0 w
 abbrev pub if_published : Option Region → Option Region
 if_published None = None
 if_published (Some r) = if is_published r then Some r else None
+
+-- whether a region was found that the client holds
+abbrev pub found_held : ℕ → Option Region → Bool
+found_held client None = false
+found_held client (Some r) = is_held_by client r
 
 -- the region is of a class from one on and below another, and held by nobody or one of the clients
 pub record IsOf (low high : ℕ) (r : Region) : Type 0 where

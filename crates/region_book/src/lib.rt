@@ -8,13 +8,13 @@ mod totals;
 ghost use Rattle.std.specs.Prelude.{◌≡◌, ◌==◌, ◌&&◌, ◌+◌, ◌-◌, ◌*◌, ◌<◌, ◌≤◌, ◌^◌, ℕ, false, true, not, [], ◌∷◌, ◌++◌, filter, find, length, map, nat_le, nat_lt, option_map, slice_index_or, take, IfOk, IfSome, IsTrue, ◌↔◌, OnOk, Some, count_by, if◌then◌else◌};
 ghost use Rattle.std.specs.List.{list_any};
 ghost use Rattle.size_classes.specs.Classes.{IsSmall};
-ghost use Rattle.space_model.specs.Region.{held_anew, inserted, is_held_by_other, landing, region_of, regions_from, starts_at};
+ghost use Rattle.space_model.specs.Region.{held_anew, inserted, is_held_by, is_held_by_other, landing, region_of, regions_from, starts_at};
 ghost use Rattle.space_model.specs.Holding.{is_published_at};
 ghost use Rattle.space_model.specs.Counts.{region_bytes, region_bytes_where, regions_by_class};
 ghost use Rattle.space_model.specs.Step.{holds_at, is_given_back, staying};
 ghost use Rattle.bin_book.specs.Bins.{free_of, slab_with_out, with_slab, with_regions_out};
 ghost use Rattle.region_book.specs.Larges.{IsHolder};
-ghost use Rattle.region_book.specs.RegionLists.{CanBeSlab, CanCome, if_published};
+ghost use Rattle.region_book.specs.RegionLists.{CanBeSlab, CanCome, found_held, if_published};
 ghost use Rattle.region_book.specs.Slabs.{is_last, slabs_landed, slabs_returned};
 
 use bin_book::BinBook;
@@ -166,9 +166,10 @@ impl RegionBook {
     }
 
     /// The region that begins at an address.
-    fn at(&self, addr: u64) -> Option<Region>
+    pub fn at(&self, addr: u64) -> Option<Region>
         ensures at { result ≡ find (starts_at addr) self.now.regions }
         ensures published { find (is_published_at addr) self.now.regions ≡ if_published result }
+        ensures held { (client : ℕ) → holds_at client self.now.regions addr ≡ found_held client result }
     {
         match self.larges.at(addr) {
             Some(region) => Some(region),
@@ -185,6 +186,16 @@ impl RegionBook {
             Some(region.class)
         } else {
             None
+        }
+    }
+
+    /// Whether the client holds the region at an address.
+    pub fn holds(&self, client: u32, addr: u64) -> bool
+        ensures { result ≡ holds_at client self.now.regions addr }
+    {
+        match self.at(addr) {
+            Some(region) => region.holder == Some(client),
+            None => false,
         }
     }
 
@@ -233,6 +244,14 @@ impl RegionBook {
         ensures { result ≡ (length self.now.regions == 0) }
     {
         self.totals.number == 0
+    }
+
+    /// How many regions the client holds.
+    pub fn count_held(&self, client: u32) -> u64
+        requires { client < 32 }
+        ensures { result ≡ count_by (is_held_by client) self.now.regions }
+    {
+        self.totals.holders[client as usize + 1]
     }
 
     /// How many regions are held by clients other than this one.

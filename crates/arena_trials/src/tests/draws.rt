@@ -193,7 +193,7 @@ fn some_address(space: &Space, number: u64) -> u64 {
 }
 
 /// The address of one of the client's large regions, if there is one.
-fn some_large(space: &Space, client: u32, number: u64) -> u64 {
+pub(crate) fn some_large(space: &Space, client: u32, number: u64) -> u64 {
     let mut found = 0;
     for (place, region) in space.regions.as_slice().iter().enumerate() {
         let own = region.holder == Some(client) && region.class >= FOUR_CLASS;
@@ -205,7 +205,7 @@ fn some_large(space: &Space, client: u32, number: u64) -> u64 {
 }
 
 /// An operation of a client, which a number chooses.
-fn drawn(alloc: Global, space: &Space, client: u32, number: u64, flight: Span) -> Op {
+pub(crate) fn drawn(alloc: Global, space: &Space, client: u32, number: u64, flight: Span) -> Op {
     let large = some_large(space, client, number);
     match number % 8 {
         0 | 1 => some_purge(number / 8, flight, some_dalloc(space)),

@@ -33,8 +33,8 @@ fn add_page(book: &mut PartBook, page: u64) -> bool {
 // Whether the extent of one page is found, and its neighbours.
 fn has_page(book: &PartBook, page: u64) -> bool {
     let part = dirty(page, 1);
-    let left = book.beside(part.span, false);
-    let right = book.beside(part.span, true);
+    let left = book.neighbour(part.span, false);
+    let right = book.neighbour(part.span, true);
     let ends = left.is_none() == (page == 512) && right.is_none() == (page == 511 + MANY);
     ends && book.look(page) == Some(&part) && book.holding(page) == Some(part)
 }
@@ -51,7 +51,7 @@ fn join(book: &mut PartBook, low: u64, high: u64) -> bool {
     let (low, high) = (book.at(low), book.at(high));
     let beside = low.span.first.checked_add(low.span.pages) == Some(high.span.first);
     if beside {
-        book.join(&low, &high);
+        book.merge(&low, &high);
     }
     beside && low.state == high.state && low.committed == high.committed
 }
@@ -132,5 +132,67 @@ fn extents_come_and_go(rt: HostRuntime) -> Result<(), Fail> {
     let mut book = PartBook::new(rt.alloc())?;
     book.reserve(MANY)?;
     all_come_and_go(&rt, &mut book);
+    Ok(())
+}
+
+// Whether two extents of one page that begin side by side are joined by their pages, and cut again by the first one's.
+fn joins_by_page(book: &mut PartBook, page: u64) -> bool {
+    let next = page.saturating_add(1);
+    if book.look(page).is_none() || book.look(next).is_none() {
+        return false;
+    }
+    let (low, high) = (book.at(page), book.at(next));
+    if low.span.first.checked_add(low.span.pages) != Some(high.span.first) {
+        return false;
+    }
+    book.join(page, next);
+    has_pages(book, page, 2)
+}
+
+// Cuts the first page off the extent that begins at a page: both pieces take a state, or the other one alone.
+fn cuts_by_page(book: &mut PartBook, page: u64, both: bool) -> bool {
+    if book.look(page).is_none() || book.spare() == 0 {
+        return false;
+    }
+    if book.at(page).span.pages < 2 {
+        return false;
+    }
+    if both {
+        book.cut(page, 1, State::Dirty, State::Muzzy);
+    } else {
+        book.shed(page, 1, State::Muzzy);
+    }
+    book.count(Rest::Muzzy) == 1 && has_pages(book, page, 1)
+}
+
+// Takes the extent that begins at a page into another state, or out of the book.
+fn leaves_by_page(book: &mut PartBook, page: u64) -> bool {
+    if book.look(page).is_none() {
+        return false;
+    }
+    book.set_state(page, State::Retained, false);
+    let retained = book.count(Rest::Retained) == 1;
+    if book.look(page).is_none() {
+        return false;
+    }
+    book.drop_part(page);
+    retained && book.look(page).is_none() && book.count(Rest::Retained) == 0
+}
+
+// Two extents of one page are joined, cut and taken out by the pages that they begin at.
+fn goes_by_page(book: &mut PartBook, page: u64, both: bool) -> bool {
+    let next = page.saturating_add(1);
+    let added = add_page(book, page) && add_page(book, next);
+    let cut = joins_by_page(book, page) && cuts_by_page(book, page, both);
+    added && cut && leaves_by_page(book, next) && leaves_by_page(book, page) && book.is_empty()
+}
+
+#[test]
+fn extents_are_changed_by_their_pages(rt: HostRuntime) -> Result<(), Fail> {
+    let mut book = PartBook::new(rt.alloc())?;
+    book.reserve(8)?;
+    assert!(rt; goes_by_page(&mut book, 600, true));
+    book.reserve(8)?;
+    assert!(rt; goes_by_page(&mut book, 700, false));
     Ok(())
 }

@@ -72,6 +72,31 @@ fn make_room(rt: &impl Abort, arena: &mut Arena, space: &mut Space, client: u32)
     true
 }
 
+/// Whether an entry may stand, which the arena and the slow machine tell alike.
+fn both_stand(rt: &impl Abort, arena: &Arena, space: &Space, entry: &Entry) -> bool
+    requires { arena.now.space ≡ space.now }
+    ensures stands { result ≡ stands space.now entry.now }
+    ensures client { IsTrue result → entry.now.client < 32 }
+{
+    let stands = arena.may_stand(entry.client, &entry.op);
+    assert_eq!(rt; stands, may_stand(space, entry), "{entry:?}");
+    stands
+}
+
+/// The reply to an entry, if it may stand, as a reader of journals has it: who asks, makes room, and takes the step.
+fn read(rt: &impl Abort, arena: &mut Arena, space: &mut Space, entry: &Entry) -> Option<Reply>
+    requires same { arena.old.space ≡ space.old }
+    requires sound { Sound space.old }
+    ensures same { arena.new.space ≡ space.new }
+    ensures sound { Sound space.new }
+{
+    if !both_stand(rt, arena, space, entry) {
+        return None;
+    }
+    arena.make_room(entry.client).expect(rt, "memory for room");
+    Some(carry_out(rt, arena, space, entry))
+}
+
 /// The reply to an entry, if it may stand. A client that may not even look may do nothing.
 fn attempt(rt: &impl Abort, arena: &mut Arena, space: &mut Space, entry: &Entry) -> Option<Reply>
     requires same { arena.old.space ≡ space.old }
@@ -79,7 +104,7 @@ fn attempt(rt: &impl Abort, arena: &mut Arena, space: &mut Space, entry: &Entry)
     ensures same { arena.new.space ≡ space.new }
     ensures sound { Sound space.new }
 {
-    if !make_room(rt, arena, space, entry.client) || !may_stand(space, entry) {
+    if !make_room(rt, arena, space, entry.client) || !both_stand(rt, arena, space, entry) {
         return None;
     }
     Some(carry_out(rt, arena, space, entry))
@@ -130,6 +155,16 @@ impl Trial {
     /// The reply to an operation of a client, if it may stand.
     pub(crate) fn attempt(&mut self, rt: &impl Abort, client: u32, op: Op) -> Option<Reply> {
         attempt(rt, &mut self.arena, &mut self.space, &Entry { client, op })
+    }
+
+    /// Whether an operation of a client may stand.
+    pub(crate) fn stands(&self, rt: &impl Abort, client: u32, op: Op) -> bool {
+        both_stand(rt, &self.arena, &self.space, &Entry { client, op })
+    }
+
+    /// The reply to an operation of a client, if it may stand, as a reader of journals has it.
+    pub(crate) fn read(&mut self, rt: &impl Abort, client: u32, op: Op) -> Option<Reply> {
+        read(rt, &mut self.arena, &mut self.space, &Entry { client, op })
     }
 
     /// The counts are those of a scan.

@@ -2,8 +2,8 @@ use Rattle.arena_core.proofs.Words.{IsTrue, arith, subst, sym, merge_stands, joi
 use Rattle.arena_core.proofs.Homes.{merged_beside}
 use Rattle.arena_core.proofs.frees.merge_done.Goals as goal
 
-pub join-requires-clause-beside : goal.join-requires-clause-beside
-join-requires-clause-beside c =
+pub merge-requires-clause-beside : goal.merge-requires-clause-beside
+merge-requires-clause-beside c =
     let stands = subst (λ ask. IsTrue (merge_stands (space_of c.args.indexes.now) c.args.client ask c.args.heard.answer)) c.in-Merge.is c.requires.stands in
     merged_beside c.args.client (space_of c.args.indexes.now) c.in-Merge.low c.in-Merge.high c.args.heard.answer c.in-Some-Some.low c.in-Some-Some.high c.requires.sound stands
     c.in-Some-Some.ensures.flight c.in-Some-Some.ensures'.flight

@@ -1,4 +1,4 @@
-use Rattle.arena_core.proofs.Words.{◌≡◌, ℕ, ◌+◌, ◌-◌, ◌*◌, not, ltb, arith, rules, ToDirty, ToMuzzy, ToRetained, is_active, is_listed, bytes_where, is_mapped, is_in_flight, region_bytes_where, space_of, both_bytes}
+use Rattle.arena_core.proofs.Words.{◌≡◌, ◌+◌, ◌-◌, ◌*◌, not, ltb, arith, rules, ToDirty, ToMuzzy, ToRetained, is_active, is_listed, bytes_where, is_mapped, is_in_flight, region_bytes_where, space_of, both_bytes}
 use Rattle.arena_core.proofs.Books.{slabs_counted}
 use Rattle.arena_core.proofs.Totals.{summed}
 use Rattle.arena_core.proofs.readers.counts.Goals as goal

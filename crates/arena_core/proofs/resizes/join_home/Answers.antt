@@ -15,8 +15,8 @@ reclass-requires c =
     let h = homed c.args.client (4096 * c.args.low.first) c.args.low.first (space_of c.args.indexes.now) (λ p. same_span p.span c.args.low) c.requires.sound c.requires.home (omega arith) c.at-part.ensures.at in
     record { client = c.requires.client; page = omega (arith, h.1.placed.2, h.1.start); there = h.1.large; bytes = region_bytes_fits (space_of c.args.indexes.now) c.requires.sound; large = c.requires.large; class = c.requires.class }
 
-pub join-requires-clause-beside : goal.join-requires-clause-beside
-join-requires-clause-beside c =
+pub merge-requires-clause-beside : goal.merge-requires-clause-beside
+merge-requires-clause-beside c =
     let h = homed c.args.client (4096 * c.args.low.first) c.args.low.first (space_of c.args.indexes.now) (λ p. same_span p.span c.args.low) c.requires.sound c.requires.home (omega arith) c.at-part.ensures.at in
     grind (arith, nat_tests, h.1.passes, c.requires.beside)
 
@@ -27,7 +27,7 @@ returns c =
     let regions = c.reclass.ensures.regions ∙ reclassed_is c.args.client (4096 * c.args.low.first) c.args.class h.0 s.regions h.1.region h.1.holder in
     let done = ap (λ o. widened_at s c.args.class o (Some c.args.high.now)) (sym h.1.found) in
     record {
-      after = (λ i. record s { parts = c.join.ensures.parts i; regions = regions i }) ∙ ap (λ (step : Stepped). step.after) done;
+      after = (λ i. record s { parts = c.merge.ensures.parts i; regions = regions i }) ∙ ap (λ (step : Stepped). step.after) done;
       reply = ap (λ addr. Landed addr 1) (sym h.1.region) ∙ ap (λ (step : Stepped). step.reply) done;
       slabs = search rules;
       places = search rules;

@@ -1,5 +1,5 @@
 use Rattle.part_book.proofs.Words.{◌≡◌, ◌+◌, ◌-◌, ◌*◌, ap, subst, arith, HasRoomFor}
-use Rattle.part_book.proofs.PartBook.shed.Goals as goal
+use Rattle.part_book.proofs.PartBook.shed_high.Goals as goal
 
 pub invariant_of-self : goal.invariant_of-self
 invariant_of-self c =
