@@ -1,6 +1,5 @@
 -- What a line of a control comes to, by the row of its name.
 use Rattle.std.specs.Prelude.{ℕ, ◌+◌, ◌*◌, List, Option, None, Some, Result, Ok, Err}
-use Rattle.std.specs.Borrow.{Bor}
 use Rattle.size_classes.specs.Classes.{pages_at, regions_at, size_at}
 use Rattle.space_model.specs.declared.Rest.TheVariants as rests
 use Rattle.call_plan.specs.declared.Request.TheVariants as requests
@@ -20,7 +19,7 @@ use Rattle.ctl_names.specs.declared.OnPlain.{OnPlain}
 use Rattle.ctl_names.specs.declared.OnPlain.TheVariants as plain
 use Rattle.ctl_names.specs.declared.OnWrite.{OnWrite}
 use Rattle.ctl_names.specs.declared.OnWrite.TheVariants as written
-use Rattle.ctl_names.specs.Rows.{RowFacts, row_at}
+use Rattle.ctl_names.specs.Rows.{row_at}
 use Rattle.ctl_values.specs.declared.plans.Wish.{Wish}
 use Rattle.ctl_values.specs.declared.plans.Wish.TheVariants as wishes
 use Rattle.ctl_values.specs.declared.steps.CtlStep.{CtlStep}

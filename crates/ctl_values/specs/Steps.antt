@@ -1,6 +1,5 @@
 -- What is to be done for a line of a control.
 use Rattle.std.specs.Prelude.{◌≡◌, ◌==◌, ℕ, true, if◌then◌else◌}
-use Rattle.space_model.specs.declared.Rest.{Rest}
 use Rattle.space_model.specs.Purging.{is_purgeable}
 use Rattle.space_model.specs.Settings.{is_decay_time}
 use Rattle.call_plan.specs.declared.Request.{Request}
@@ -9,7 +8,7 @@ use Rattle.call_plan.specs.Laws.{IsInRange}
 use Rattle.heap_stats.specs.declared.Whose.{Whose}
 use Rattle.heap_stats.specs.declared.Whose.TheVariants as whose
 use Rattle.ctl_values.specs.declared.steps.CtlStep.{CtlStep}
-use Rattle.ctl_values.specs.declared.steps.CtlStep.TheVariants.{Call, CallAll, Default, Number, Setting, ArenaSetting, Refresh, Stat, Lookup}
+use Rattle.ctl_values.specs.declared.steps.CtlStep.TheVariants.{Call, CallAll, Default}
 use Rattle.ctl_values.specs.declared.steps.Times.{Times}
 use Rattle.ctl_values.specs.declared.steps.Upkeep.{Upkeep}
 use Rattle.ctl_values.specs.declared.steps.Upkeep.TheVariants.{Purge, Decay}

@@ -1,7 +1,8 @@
-//! What a plain line of the names with numbers comes to.
+//! What a plain line of each name comes to, and a write.
 
 use crate::{CtlStep, Times, Wish, plan};
-use ctl_names::read;
+use ctl_names::{CtlError, read};
+use std::process::Abort;
 
 /// The moment, and the times that arenas are created with.
 const TIMES: Times = Times {
@@ -9,6 +10,169 @@ const TIMES: Times = Times {
     dirty_ms: 10000,
     muzzy_ms: 0,
 };
+
+/// What a line of a name comes to: the name of its step or of its error.
+fn comes_to(name: &str, wish: Wish) -> &'static str {
+    let planned = match read(name.as_bytes()) {
+        Ok(name) => plan(name, wish, TIMES),
+        Err(error) => Err(error),
+    };
+    match planned {
+        Ok(CtlStep::Number(_)) => "number",
+        Ok(CtlStep::Call(_)) => "call",
+        Ok(CtlStep::CallAll(_)) => "calls",
+        Ok(CtlStep::Setting(_) | CtlStep::ArenaSetting(_, _)) => "setting",
+        Ok(CtlStep::Default(_, _)) => "default",
+        Ok(CtlStep::Refresh) => "refresh",
+        Ok(CtlStep::Stat(_, _)) => "stat",
+        Ok(CtlStep::Lookup(_)) => "lookup",
+        Err(CtlError::Einval) => "EINVAL",
+        Err(CtlError::Enoent) => "ENOENT",
+        Err(CtlError::Eperm) => "EPERM",
+    }
+}
+
+/// A plain line of a name and a write of a value to it each come to what is wanted.
+fn passes(rt: &impl Abort, name: &str, plain: &str, value: &str, written: &str) {
+    assert_eq!(rt; comes_to(name, Wish::Plain), plain, "{name}");
+    assert_eq!(rt;
+        comes_to(name, Wish::Write(value.as_bytes())),
+        written,
+        "{name} = {value}"
+    );
+}
+
+#[test]
+fn clients_names_are_read_and_written(rt: HostRuntime) {
+    passes(&rt, "epoch", "setting", "18446744073709551615", "refresh");
+    passes(&rt, "epoch", "setting", "18446744073709551616", "EINVAL");
+    passes(&rt, "epoch", "setting", "01", "EINVAL");
+    passes(&rt, "thread.arena", "setting", "4294967295", "call");
+    passes(&rt, "thread.arena", "setting", "4294967296", "EINVAL");
+    passes(&rt, "thread.tcache.enabled", "setting", "true", "call");
+    passes(&rt, "thread.tcache.enabled", "setting", "on", "EINVAL");
+    passes(&rt, "thread.tcache.flush", "call", "1", "EPERM");
+}
+
+#[test]
+fn an_arenas_upkeep_is_not_written(rt: HostRuntime) {
+    passes(&rt, "arena.0.initialized", "setting", "true", "EPERM");
+    passes(&rt, "arena.31.decay", "call", "x", "EPERM");
+    passes(&rt, "arena.4096.decay", "calls", "x", "EPERM");
+    passes(&rt, "arena.0.purge", "call", "x", "EPERM");
+    passes(&rt, "arena.4096.purge", "calls", "x", "EPERM");
+    passes(&rt, "arena.32.purge", "ENOENT", "x", "ENOENT");
+    passes(&rt, "arena.0.reset", "call", "x", "EPERM");
+    passes(&rt, "arena.1.destroy", "call", "x", "EPERM");
+}
+
+#[test]
+fn an_arenas_settings_are_read_and_written(rt: HostRuntime) {
+    passes(&rt, "arena.5.dirty_decay_ms", "setting", "-1", "call");
+    passes(&rt, "arena.5.dirty_decay_ms", "setting", "-2", "EINVAL");
+    passes(
+        &rt,
+        "arena.5.muzzy_decay_ms",
+        "setting",
+        "1000000000",
+        "call",
+    );
+    passes(
+        &rt,
+        "arena.5.muzzy_decay_ms",
+        "setting",
+        "1000000001",
+        "EINVAL",
+    );
+    passes(&rt, "arena.0.extent_hooks", "setting", "31", "call");
+    passes(&rt, "arena.0.extent_hooks", "setting", "32", "EINVAL");
+    passes(
+        &rt,
+        "arena.0.retain_grow_limit",
+        "setting",
+        "2097152",
+        "call",
+    );
+    passes(
+        &rt,
+        "arena.0.retain_grow_limit",
+        "setting",
+        "2097151",
+        "EINVAL",
+    );
+    passes(
+        &rt,
+        "arena.0.retain_grow_limit",
+        "setting",
+        "34359738368",
+        "call",
+    );
+    passes(
+        &rt,
+        "arena.0.retain_grow_limit",
+        "setting",
+        "34359738369",
+        "EINVAL",
+    );
+}
+
+#[test]
+fn names_of_all_arenas_are_read_and_written(rt: HostRuntime) {
+    passes(&rt, "arenas.narenas", "setting", "1", "EPERM");
+    passes(&rt, "arenas.dirty_decay_ms", "setting", "0", "default");
+    passes(&rt, "arenas.muzzy_decay_ms", "setting", "-1", "default");
+    passes(&rt, "arenas.muzzy_decay_ms", "setting", "", "EINVAL");
+    passes(&rt, "arenas.create", "call", "31", "call");
+    passes(&rt, "arenas.create", "call", "x", "EINVAL");
+    passes(&rt, "arenas.lookup", "EINVAL", "@200000", "lookup");
+    passes(&rt, "arenas.lookup", "EINVAL", "@00", "EINVAL");
+    passes(&rt, "arenas.lookup", "EINVAL", "200000", "EINVAL");
+}
+
+#[test]
+fn numbers_of_classes_are_not_written(rt: HostRuntime) {
+    passes(&rt, "arenas.quantum", "number", "16", "EPERM");
+    passes(&rt, "arenas.page", "number", "x", "EPERM");
+    passes(&rt, "arenas.tcache_max", "number", "x", "EPERM");
+    passes(&rt, "arenas.nbins", "number", "x", "EPERM");
+    passes(&rt, "arenas.nhbins", "number", "x", "EPERM");
+    passes(&rt, "arenas.nlextents", "number", "x", "EPERM");
+    passes(&rt, "arenas.bin.35.size", "number", "x", "EPERM");
+    passes(&rt, "arenas.bin.0.nregs", "number", "x", "EPERM");
+    passes(&rt, "arenas.bin.0.slab_size", "number", "x", "EPERM");
+    passes(&rt, "arenas.lextent.84.size", "number", "x", "EPERM");
+}
+
+#[test]
+fn statistics_are_not_written(rt: HostRuntime) {
+    passes(&rt, "stats.allocated", "stat", "x", "EPERM");
+    passes(&rt, "stats.active", "stat", "x", "EPERM");
+    passes(&rt, "stats.retained", "stat", "x", "EPERM");
+    passes(&rt, "stats.arenas.4096.pactive", "stat", "x", "EPERM");
+    passes(
+        &rt,
+        "stats.arenas.4097.small.allocated",
+        "stat",
+        "x",
+        "EPERM",
+    );
+    passes(&rt, "stats.arenas.0.bins.35.curslabs", "stat", "x", "EPERM");
+    passes(
+        &rt,
+        "stats.arenas.0.bins.36.curslabs",
+        "ENOENT",
+        "x",
+        "ENOENT",
+    );
+    passes(
+        &rt,
+        "stats.arenas.0.lextents.84.curlextents",
+        "stat",
+        "x",
+        "EPERM",
+    );
+    passes(&rt, "tcache.create", "ENOENT", "0", "ENOENT");
+}
 
 #[test]
 fn numbers_are_those_of_the_classes(rt: HostRuntime) {

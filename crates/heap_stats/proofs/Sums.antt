@@ -1,5 +1,5 @@
 -- The counts of an arena are at most the bytes of the space.
-use Rattle.std.proofs.Common.{◌≡◌, cond, ℕ, zero, suc, ◌+◌, ◌*◌, ◌^◌, ◌<◌, ◌≤◌, Bool, List, [], ◌∷◌, length, map, get_or, arith, All, eqb, ltb}
+use Rattle.std.proofs.Common.{cond, ℕ, zero, suc, ◌+◌, ◌^◌, ◌<◌, ◌≤◌, Bool, List, [], ◌∷◌, length, map, get_or, arith, All, eqb, ltb}
 use Rattle.std.specs.Prelude.{not}
 use Rattle.std.specs.List.{count_by, range_with_len, sum_by}
 use Rattle.std.proofs.lemmas.List.Sums.{count_by-le-length, sum_by-cons, sum_by-le-sum_by}
@@ -11,11 +11,11 @@ use Rattle.space_model.specs.declared.Region.{Region}
 use Rattle.space_model.specs.declared.Rest.TheVariants.{Dirty as ToDirty, Muzzy as ToMuzzy, Retained as ToRetained}
 use Rattle.space_model.specs.declared.Space.{Space}
 use Rattle.space_model.specs.declared.State.{State}
-use Rattle.space_model.specs.Counts.{bytes_of, bytes_where, counts_of, is_mapped, region_bytes, region_bytes_where, regions_by_class, slabs_by_class}
+use Rattle.space_model.specs.Counts.{bytes_of, bytes_where, counts_of, is_mapped, region_bytes_where, regions_by_class, slabs_by_class}
 use Rattle.space_model.specs.Part.{is_active, is_in_flight, is_listed}
 use Rattle.space_model.specs.Region.{is_slab}
 use Rattle.space_model.specs.Sound.{Sound}
-use Rattle.space_model.specs.Span.{IsPlaced, pages_end}
+use Rattle.space_model.specs.Span.{IsPlaced}
 use Rattle.space_model.proofs.Sums.{bytes_le, pages_fit_space, region_bytes_fits}
 use Rattle.heap_stats.specs.Stats.{AreSmall}
 

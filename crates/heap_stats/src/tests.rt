@@ -1,4 +1,8 @@
-//! The text of counts, and a snapshot before the first refresh.
+//! The text of counts, and what a snapshot gives of them.
+
+ghost use Rattle.std.specs.Prelude.{◌≤◌, ◌^◌};
+ghost use Rattle.std.specs.List.{All};
+ghost use Rattle.heap_stats.specs.Stats.{AreSmall, AreSmallWhereLive};
 
 use crate::{Count, Snapshot, Whose, json};
 use space_model::Counts;
@@ -7,7 +11,10 @@ use std::test::Fail;
 
 /// The counts of an arena with a slab of the least class, in which so many regions are out, and one large region of 40960
 /// bytes.
-fn counts(regions: u64) -> Counts {
+fn counts(regions: u64) -> Counts
+    requires few { regions ≤ 2 ^ 58 }
+    ensures { AreSmall result }
+{
     let mut counts = Counts {
         allocated: 40960,
         active: 45056,
@@ -26,6 +33,16 @@ fn counts(regions: u64) -> Counts {
     counts.slabs[0] = 1;
     counts.lextents[5] = 1;
     counts
+}
+
+/// The counts of 32 arenas of which those with the indices 1 and 31 are live.
+fn two_live() -> [Option<Counts>; 32]
+    ensures { All AreSmallWhereLive result }
+{
+    let mut arenas = [None; 32];
+    arenas[1] = Some(counts(3));
+    arenas[31] = Some(counts(4));
+    arenas
 }
 
 #[test]
@@ -53,5 +70,33 @@ fn a_new_snapshot_has_nothing(rt: HostRuntime) {
         Whose::Destroyed,
     ] {
         assert_eq!(rt; snapshot.stat(whose, Count::Allocated), 0, "{whose:?}");
+    }
+}
+
+#[test]
+fn a_snapshot_keeps_what_it_took(rt: HostRuntime) {
+    let mut snapshot = Snapshot::zero();
+    assert_eq!(rt; snapshot.stat(Whose::All, Count::Active), 0);
+    let mut arenas = two_live();
+    snapshot.refresh(&arenas);
+    arenas[31] = Some(counts(5));
+    let stats = [
+        (Whose::Arena(1), Count::ActivePages, 11),
+        (Whose::Arena(1), Count::DirtyPages, 2),
+        (Whose::Arena(1), Count::MuzzyPages, 1),
+        (Whose::Arena(31), Count::Regions(0), 4),
+        (Whose::Arena(31), Count::Regions(36), 0),
+        (Whose::Arena(31), Count::Slabs(0), 1),
+        (Whose::Arena(31), Count::LargeRegions(5), 1),
+        (Whose::Arena(0), Count::Allocated, 0),
+        (Whose::Arena(32), Count::Allocated, 0),
+        (Whose::All, Count::Regions(0), 7),
+        (Whose::All, Count::Retained, 4079616),
+        (Whose::All, Count::Large, 81920),
+        (Whose::All, Count::Small, 0),
+        (Whose::Destroyed, Count::Allocated, 0),
+    ];
+    for (whose, count, want) in stats {
+        assert_eq!(rt; snapshot.stat(whose, count), want, "{whose:?} {count:?}");
     }
 }
