@@ -1,5 +1,5 @@
 -- Where a request begins there is room for its asks and turns. And what a call asks for fits into a number.
-use Rattle.call_plan.proofs.Words.{◌≡◌, ◌≤◌, ◌<◌, ℕ, cond, Option, Result, OnOk, OnErr, List, [], arith, subst, nat_tests, class_for_exists, pages_bounds, Request, Malloc, Memalign, Item, Answered, BatchFacts, hit, Next, Go, Ends, Stage, Held, DeskFacts, Moment, batch_goes, begin, begin_get, begin_stage, run, settle, stage, step_next, IsSizedPoint, IsSizedNext, Goes, IsPointOrEnd, IsCall, is_malloc, most_asks, AsksAreFew, IsShort, MallocsAreShort}
+use Rattle.call_plan.proofs.Words.{◌≡◌, ◌≤◌, ◌<◌, ℕ, cond, Option, List, [], arith, subst, nat_tests, class_for_exists, pages_bounds, Request, Malloc, Memalign, Item, Answered, BatchFacts, hit, Next, Go, Ends, Stage, Held, DeskFacts, Moment, batch_goes, begin, begin_get, begin_stage, run, settle, step_next, IsSizedPoint, IsSizedNext, Goes, IsPointOrEnd, IsCall, is_malloc, most_asks, AsksAreFew, IsShort, MallocsAreShort}
 use Rattle.call_plan.proofs.Aligned.{aligned_below}
 use Rattle.call_plan.proofs.Bounds.{AsksLeft, IsShortStill, credit, run_left, run_short, settle_keeps, turns_at}
 
@@ -53,10 +53,6 @@ next_few next item few = grind (arith, nat_tests)
 
 pub settle_few : (request : Request) (desk : DeskFacts) (arena : ℕ) (next : Next) → IsSizedNext next → IsSizedNext (settle request desk arena next).next
 settle_few = settle_keeps IsSizedNext (record { over = λ index point few. few; gone = λ arena few. tt; batch = λ addrs few. tt; done = λ few. tt })
-
--- what is so of where a stage was led, and of every end, is so of where it stands
-pub led_or_ended : {A E : Type 0} (P : Next → Type 0) (result : Result A E) (led : Stage) (arena : ℕ) (answer : Answered) (at : Stage) → OnOk result (at ≡ led) → OnErr result (at ≡ stage arena (Ends answer)) → P led.next → P (Ends answer) → P at.next
-led_or_ended P result led arena answer at is ends so end = grind arith
 
 -- a step that goes leads to a point or to the end
 pub settle_place : (request : Request) (desk : DeskFacts) (arena : ℕ) (next : Next) → Goes (settle request desk arena next).next → IsPointOrEnd (settle request desk arena next).next

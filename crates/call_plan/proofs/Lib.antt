@@ -13,6 +13,7 @@ pub mod Beginning
 pub mod Causes
 pub mod Reasons
 pub mod Credits
+pub mod Naming
 pub mod Rooms
 pub mod Frees
 pub mod Purges

@@ -1,5 +1,5 @@
 -- A region that its client comes to hold has room: where none is wanted, none is wanted either where the call goes.
-use Rattle.call_plan.proofs.Words.{◌≡◌, ℕ, ◌≤◌, ◌||◌, true, false, Option, None, Some, is_some, Result, OnOk, OnErr, arith, refl, nat_tests, Request, Item, NoMemory, Point, Next, Go, Over, More, Ends, Stage, Held, DeskFacts, CallFacts, gets_at, may_hold, started, wants_place, HasRoomToHold, ended_by, begin, desk_fed, begin_desk, begin_stage, settle, stage, step_next, step}
+use Rattle.call_plan.proofs.Words.{◌≡◌, ℕ, ◌≤◌, ◌||◌, true, false, Option, None, Some, is_some, arith, refl, nat_tests, Request, Item, Point, Next, Go, Over, Ends, Stage, Held, DeskFacts, CallFacts, gets_at, may_hold, started, wants_place, HasRoomToHold, ended_by, begin, desk_fed, begin_desk, begin_stage, settle, step_next, step}
 use Rattle.call_plan.specs.Words.{Region, Ok as Answers}
 use Rattle.call_plan.proofs.Bounds.{settle_keeps}
 use Rattle.call_plan.proofs.Credits.{begin-is_call}
@@ -39,10 +39,9 @@ pub begin_room : (request : Request) (desk now : DeskFacts) (at : Stage) (had ha
 begin_room request desk now at had has is same room within wants = grind (arith, nat_tests, begin_quiet, begin_hand, quiet_wants)
 
 -- and where it goes on once it was fed
-pub fed_room : {A E : Type 0} (request : Request) (desk now : DeskFacts) (arena : ℕ) (next : Next) (item : Item) (had has : ℕ) (fed : Result A E) (at : Stage) → now ≡ desk_fed desk arena next item →
-    had ≤ has → HasRoomToHold desk.hand had next → OnOk fed (at ≡ settle request now arena (step_next next item)) → OnErr fed (at ≡ stage arena (Ends NoMemory)) → OnErr fed (step_next next item ≡ More) →
-    wants_place now.hand at.next ≡ true → 1 ≤ has
-fed_room request desk now arena next item had has fed at same within room ok err more wants = grind (arith, hand_fed, step_quiet, settle_quiet, quiet_wants)
+pub fed_room : (request : Request) (desk now : DeskFacts) (arena : ℕ) (next : Next) (item : Item) (had has : ℕ) → now ≡ desk_fed desk arena next item → had ≤ has → HasRoomToHold desk.hand had next →
+    wants_place now.hand (settle request now arena (step_next next item)).next ≡ true → 1 ≤ has
+fed_room request desk now arena next item had has fed within room wants = grind (arith, hand_fed, step_quiet, settle_quiet, quiet_wants)
 
 -- a call that begins and hasn't ended is open
 pub begins_open : (c : ℕ) (request : Request) (had desk : DeskFacts) (was : Option CallFacts) (at : Stage) → at ≡ begin_stage request had → had ≡ desk → ended_by at.next ≡ None →

@@ -1,5 +1,5 @@
 -- The reasons of each point to which a call comes, and of its answer.
-use Rattle.call_plan.proofs.Words.{rules, ◌≡◌, ℕ, ◌+◌, ◌-◌, ◌<◌, ◌*◌, ◌^◌, ◌⊎◌, inl, inr, Bool, true, false, not, max, List, [], ◌∷◌, ◌++◌, Option, None, Some, refl, sym, ◌∙◌, ap, subst, arith, nat_lt, append_assoc, Contains, cond_both, ltb-true, not-true, not-false, nat_tests, step_of, after_cut, after_commit, after_grow, Request, Malloc, Memalign, Free, FreeForeign, Publish, Take, Item, Replied, Told, Starved, Refused, BadAnswer, NotHeld, aligned_for, class_for, held_at, hit, Wish, Then, Batches, Visiting, Change, Stops, Visits, Leaves, TurnPoint, Filling, Looking, Landing, Finding, Taking, Offering, Advancing, Changing, Making, Resetting, Destroying, Owning, AskPoint, Skipping, Trimming, Growing, Paring, Needing, Granting, Committing, Merging, Easing, Returning, Decommitting, Forcing, Point, Turns, Asks, Tells, Next, Go, Over, Gone, More, Ends, Stage, Refuses, Reply, NoArena, Nothing, Noted, Taken, Took, Cut, Whole, Refuse, Bad, Grown, Landed, Regions, Owned, Space, Span, Why, AskFacts, Held, DeskFacts, answered_span, alloc_of, ask_at, done_at, op_at, is_marked, starved, whole_chunks, step, turn_replied, told, commit, trim, put_next, took_over, begin, begin_free, begin_get, begin_malloc, begin_memalign, begin_publish, begin_stage, is_alignment, page_align, settle, small_hit, step_next, wish_for, with_found, extent, extent_of, NothingFits, WasGranted, IsNeeded, IsWishOf, RegionCause, GivenCause, CauseOf, Came, AllCame, AnswersHaveCauses, Visit, visit_gives, visited, DoneCause, TakenBelow, FullCause, Empties, TellsTime}
+use Rattle.call_plan.proofs.Words.{rules, ◌≡◌, ℕ, ◌+◌, ◌-◌, ◌<◌, ◌*◌, ◌^◌, ◌⊎◌, inl, inr, Bool, true, false, not, max, List, [], ◌∷◌, ◌++◌, Option, None, Some, refl, sym, ◌∙◌, ap, subst, arith, nat_lt, append_assoc, Contains, cond_both, ltb-true, not-true, not-false, nat_tests, step_of, after_cut, after_commit, after_grow, Request, Malloc, Memalign, Free, FreeForeign, Publish, Take, Item, Replied, Told, Starved, Refused, BadAnswer, NotHeld, aligned_for, class_for, held_at, hit, Wish, Then, Batches, Visiting, Change, Stops, Visits, Leaves, TurnPoint, Filling, Looking, Landing, Finding, Taking, Offering, Advancing, Changing, Making, Resetting, Destroying, Owning, AskPoint, Skipping, Trimming, Growing, Paring, Needing, Granting, Committing, Merging, Easing, Returning, Decommitting, Forcing, Point, Turns, Asks, Tells, Next, Go, Over, Gone, More, Ends, Stage, Refuses, Reply, NoArena, Nothing, Noted, Taken, Took, Cut, Whole, Refuse, Bad, Grown, Landed, Regions, Owned, Space, Span, Why, Sound, AskFacts, Held, DeskFacts, answered_span, alloc_of, ask_at, done_at, op_at, is_marked, starved, whole_chunks, step, turn_replied, told, commit, trim, put_next, took_over, begin, begin_free, begin_get, begin_malloc, begin_memalign, begin_publish, begin_stage, is_alignment, page_align, settle, small_hit, step_next, wish_for, with_found, extent, extent_of, NothingFits, WasGranted, IsNeeded, IsWishOf, RegionCause, GivenCause, CauseOf, Came, AllCame, AnswersHaveCauses, Visit, visit_gives, visited, DoneCause, TakenBelow, FullCause, Empties, TellsTime}
 use Rattle.std.specs.Prelude.{replicate}
 use Rattle.std.proofs.lemmas.List.{replicate-append-replicate}
 use Rattle.call_plan.proofs.Aligned.{failing_is_not, passing_is}
@@ -158,9 +158,9 @@ module _ (desk : DeskFacts) where
 
   -- ---- after an answer was taken in
 
-  -- the reply came of the turn
+  -- the reply came of the turn in a sound space
   abbrev pub Turned : ℕ → AskPoint → AskFacts → Reply → Type 0
-  Turned c point asked reply = (s : Space) × (found : Option ℕ) × (reply ≡ (step_of s c (with_found found (done_at point asked))).reply)
+  Turned c point asked reply = (s : Space) × Sound s × (found : Option ℕ) × (reply ≡ (step_of s c (with_found found (done_at point asked))).reply)
 
   -- a piece of the extent is left after a cut
   cut_had : (request : Request) (items earlier : List Item) (asked : AskFacts) (wish : Wish) (span kept : Span) (b : Bool) → items ≡ earlier ++ Told asked ∷ [] → Had request earlier wish span b →
@@ -191,22 +191,24 @@ module _ (desk : DeskFacts) where
 
   -- a range that can't be taken is why the call has a bad answer
   bad_why : (request : Request) (items : List Item) (point : AskPoint) (asked : AskFacts) (wish : Wish) (pages : ℕ) (why : Why) → IsWishOf request wish → HeardWhy request items point asked →
-      ask_at point ≡ alloc_of wish pages → (s : Space) (c : ℕ) (found : Option ℕ) → Bad why ≡ (after_grow s c found asked.ask asked.answer).reply →
+      ask_at point ≡ alloc_of wish pages → (s : Space) → Sound s → (c : ℕ) (found : Option ℕ) → Bad why ≡ (after_grow s c found asked.ask asked.answer).reply →
       CauseOf desk request (items ++ Replied (Bad why) ∷ []) (BadAnswer (answered_span pages asked.answer) why)
-  bad_why request items point asked wish pages why wished heard is s c found replied =
+  bad_why request items point asked wish pages why wished heard is s sound c found replied =
       let ask : asked.ask ≡ alloc_of wish pages = heard.is ∙ is in
       let at = subst (λ a. Bad why ≡ (after_grow s c found a asked.answer).reply) ask replied in
       let bad = grow_bad s c found pages (max 512 wish.align) asked.answer why at in record {
         wish = wish;
         wished = wished;
         asked = asked;
-        told = asked_in request items point asked (Bad why) heard;
+        earlier = heard.earlier;
+        told = ap (λ (xs : List Item). xs ++ Replied (Bad why) ∷ []) heard.told ∙ append_assoc heard.earlier (Told asked ∷ []) (Replied (Bad why) ∷ []);
         alloc = ask ∙ ap (alloc_of wish) (sym bad.0.pages_are);
         is_committed = bad.0.is_committed;
         zeroed = bad.0.zeroed;
         placed = bad.0.placed;
         found = found;
-        parts = s.parts;
+        space = s;
+        sound = sound;
         against = bad.1;
       }
 
@@ -222,23 +224,23 @@ module _ (desk : DeskFacts) where
   told_why request items c (Paring wish span b) asked (Cut low) why came = commit_why request _ wish low b (cut_had request items why.earlier asked wish span low b why.told why.why)
   told_why request items c (Growing wish chunks) asked Refuse why came =
       (why.why.0, fits_more items (Replied Refuse) (subst NothingFits (sym why.told) (fits_more why.earlier (Told asked) why.why.1)))
-  told_why request items c (Growing wish chunks) asked (Bad reason) why (s, found, replied) = bad_why request items (Growing wish chunks) asked wish (chunks * 512) reason why.why.0 why refl s c found replied
+  told_why request items c (Growing wish chunks) asked (Bad reason) why (s, sound, found, replied) = bad_why request items (Growing wish chunks) asked wish (chunks * 512) reason why.why.0 why refl s sound c found replied
   told_why request items c (Growing wish chunks) asked (Grown span b) why came = (why.why.0, extent_next items (Replied (Grown span b)) (extent_of items) refl)
-  told_why request items c (Needing wish) asked Refuse why (s, found, replied) =
+  told_why request items c (Needing wish) asked Refuse why (s, sound, found, replied) =
       refused_why request items (Needing wish) asked wish Refuse why.why.0 why
       (grow_refused s c found (whole_chunks wish.pages) (max 512 wish.align) asked.answer (subst (λ a. Refuse ≡ (after_grow s c found a asked.answer).reply) why.is replied)) (refl, why.why.1)
-  told_why request items c (Needing wish) asked (Bad reason) why (s, found, replied) = bad_why request items (Needing wish) asked wish (whole_chunks wish.pages) reason why.why.0 why refl s c found replied
-  told_why request items c (Needing wish) asked (Grown span b) why (s, found, replied) =
+  told_why request items c (Needing wish) asked (Bad reason) why (s, sound, found, replied) = bad_why request items (Needing wish) asked wish (whole_chunks wish.pages) reason why.why.0 why refl s sound c found replied
+  told_why request items c (Needing wish) asked (Grown span b) why (s, sound, found, replied) =
       let had : Had request (items ++ Replied (Grown span b) ∷ []) wish span b = (why.why.0, extent_next items (Replied (Grown span b)) (extent_of items) refl) in
       let placed = grow_grown s c found (whole_chunks wish.pages) (max 512 wish.align) asked.answer span b (subst (λ a. Grown span b ≡ (after_grow s c found a asked.answer).reply) why.is replied) in
       cond_both (nat_lt wish.pages span.pages) _ _ (NextWhy request _)
       (λ h. (had, record { asked = asked; told = asked_in request items (Needing wish) asked (Grown span b) why; exact = why.is; is_committed = b; zeroed = placed.0; placed = placed.1; replied = last_in items (Replied (Grown span b)); more = ltb-true _ _ h }))
       (λ h. commit_why request _ wish span b had)
   told_why request items c (Granting wish span b) asked (Cut low) why came = commit_why request _ wish low b (cut_had request items why.earlier asked wish span low b why.told why.why.0)
-  told_why request items c (Granting wish span b) asked Whole why (s, found, replied) =
+  told_why request items c (Granting wish span b) asked Whole why (s, sound, found, replied) =
       refused_why request items (Granting wish span b) asked wish Whole why.why.0.0 why
       (cut_whole s c true span wish.pages asked.answer (subst (λ a. Whole ≡ (after_cut s c true a asked.answer).reply) why.is replied)) (refl, why.why.1)
-  told_why request items c (Committing wish span) asked Whole why (s, found, replied) =
+  told_why request items c (Committing wish span) asked Whole why (s, sound, found, replied) =
       refused_why request items (Committing wish span) asked wish Whole why.why.0 why
       (commit_whole s c span asked.answer (subst (λ a. Whole ≡ (after_commit s c a asked.answer).reply) why.is replied)) why.why.1
   told_why request items c point asked NoArena why came = tt
@@ -262,7 +264,7 @@ module _ (desk : DeskFacts) where
   step_why request items c (Turns point) (Replied reply) why came = turned_why request items point reply why
   step_why request items c (Turns point) Starved why came = starved_why request items (is_marked (op_at point))
   step_why request items c (Asks point None) (Told asked) why (s, t, sound, (is, kind, same)) = record { earlier = items; told = refl; why = why; is = is }
-  step_why request items c (Asks point (Some asked)) (Replied reply) why (s, t, sound, (found, left, replied)) = told_why request items c point asked reply why (s, found, replied)
+  step_why request items c (Asks point (Some asked)) (Replied reply) why (s, t, sound, (found, left, replied)) = told_why request items c point asked reply why (s, sound, found, replied)
   step_why request items c point item why came = grind arith
 
   next_why : (request : Request) (c : ℕ) (past : List Item) (next : Next) (item : Item) → NextWhy request past next → Came c next item → NextWhy request (past ++ item ∷ []) (step_next next item)

@@ -3,7 +3,7 @@ pub use Rattle.std.specs.Bool.{beq}
 pub use Rattle.std.specs.Int.{is_power_of_two, next_multiple_of}
 pub use Rattle.std.specs.List.{range_with_len, list_any, remove, position_or_len, list_all}
 pub use Rattle.std.specs.Option.{option_or, option_map}
-pub use Rattle.std.proofs.Common.{◌≡◌, ℕ, ◌+◌, ◌^◌, ◌<◌, ◌≤◌, ◌==◌, inl, inr, max, true, false, cond, ◌&&◌, get_or, sym, zero-add, refl, ◌∙◌, ap, arith, leb, ltb, Bool, min, List, [], ◌∷◌, suc, zero, Option, None, Some, nat_le, Contains, ◌-◌, ◌++◌, subst, append_assoc, append-nil, sum_by, count_by, not, Result, OnOk, OnErr, nat_lt, IsTrue, is_some, ◌*◌, ◌||◌, All, filter, find, length, add-zero, ◌≢◌, count_ones, ◌%◌, rules, slice_get, ◌/◌, ◌⊎◌, lt-ltb, map, le-leb, eq-eqb, take, drop, vec_len}
+pub use Rattle.std.proofs.Common.{◌≡◌, ℕ, ◌+◌, ◌^◌, ◌<◌, ◌≤◌, ◌==◌, inl, inr, max, true, false, cond, ◌&&◌, get_or, sym, zero-add, refl, ◌∙◌, ap, arith, leb, ltb, Bool, min, List, [], ◌∷◌, suc, zero, Option, None, Some, nat_le, Contains, ◌-◌, ◌++◌, subst, append_assoc, append-nil, sum_by, count_by, not, Result, OnOk, OnErr, nat_lt, IsTrue, is_some, ◌*◌, ◌||◌, All, filter, find, length, add-zero, ◌≢◌, count_ones, ◌%◌, rules, slice_get, ◌/◌, ◌⊎◌, lt-ltb, map, le-leb, eq-eqb, take, drop, vec_len, IsSomeAnd}
 pub use Rattle.std.proofs.Math.Bool.{and-true, and_comm, and_assoc}
 pub use Rattle.std.proofs.Math.ListN.{length-append}
 pub use Rattle.std.proofs.Math.Nat.{pow-le-pow_right, add-mod-mod, div-add-mod, dvd-mul_left, mod-lt, mod_self, mul-add-mod_self_left, mul-dvd-mul_left}
@@ -43,7 +43,7 @@ pub use Rattle.space_model.specs.Settings.{after_set, setting_stands}
 pub use Rattle.space_model.specs.Slabs.{after_fill}
 pub use Rattle.space_model.specs.Sound.{IsQuiet, is_in_flight}
 pub use Rattle.space_model.specs.Span.{IsPlaced, meets, run_start, holds_run}
-pub use Rattle.space_model.specs.Step.{rises_from, after_cut, after_commit, after_grow, why_not, next_flight, cut_at, kept_piece, other_piece, after_look, look_at, grow_unless, new_part, commit_at, is_live, step_of, is_customer, holds_at, is_purged, is_like, is_right_of, is_left_of, neighbour, put_at_rest, put_beside, may_merge, join_at, after_merge, after_back, apart_at, op_stands, is_yes_or_no, is_range_or_no}
+pub use Rattle.space_model.specs.Step.{rises_from, after_cut, after_commit, after_grow, why_not, next_flight, cut_at, kept_piece, other_piece, after_look, look_at, grow_unless, new_part, commit_at, is_live, step_of, is_customer, holds_at, is_purged, is_like, is_right_of, is_left_of, neighbour, put_at, put_at_rest, put_beside, may_merge, join_at, after_merge, after_back, apart_at, op_stands, is_yes_or_no, is_range_or_no}
 pub use Rattle.space_model.specs.Stepped.{stays, is_lazy, Stepped, whole_at, joined, begins_either, replaced}
 pub use Rattle.space_model.specs.declared.Life.{Life}
 pub use Rattle.space_model.specs.declared.Offered.{Offered}
@@ -52,22 +52,22 @@ pub use Rattle.space_model.specs.declared.Region.{Region}
 pub use Rattle.space_model.specs.declared.State.{State}
 pub use Rattle.space_model.specs.declared.State.TheVariants.{Dirty, Flight}
 pub use Rattle.thread_cache.proofs.Going.{batch_is, cached_is_flat, taken_is_in}
-pub use Rattle.thread_cache.specs.Desks.{has_slot, older_count, rising_from, before_last}
+pub use Rattle.thread_cache.specs.Desks.{addrs_in, has_slot, older_count, rising_from, before_last}
 unfoldable pub use lib.Count.{ones}
 pub use Rattle.call_plan.specs.Aligned.{IsCacheAligned, MemalignsAreAligned}
 pub use Rattle.call_plan.specs.Bounds.{is_told, is_turn, brings, is_malloc, most_asks, AsksAreFew, IsShort, MallocsAreShort, is_free, is_purge, Stride, Strides, Follows, Walks, emptied_by, emptied_by_all, asks, purges, FreesAreFew, taken_by, taken_of, found_by, found_of, PurgesAreFew}
-pub use Rattle.call_plan.specs.Calls.{IsCall, gets_at, may_hold, wants_place, HasRoomToHold, CallFacts, moment_of, started, gets_ask}
+pub use Rattle.call_plan.specs.Calls.{IsCall, gets_at, may_hold, wants_place, HasRoomToHold, CallFacts, moment_at, started, gets_ask}
 pub use Rattle.call_plan.specs.Causes.{DoneCause, Empties, TellsTime, TakenBelow, FullCause, Extent, extent_after, extent_of, NothingFits, AllCame, Came, extent, WasGranted, IsNeeded, IsWishOf, RegionCause, GivenCause, CauseOf, AnswersHaveCauses}
-pub use Rattle.call_plan.specs.Desks.{flushes, desk_fed, address_behind, held_region, sharing}
+pub use Rattle.call_plan.specs.Desks.{flushes, desk_closed, desk_fed, address_behind, held_region, sharing}
 pub use Rattle.call_plan.specs.Items.{lent}
 pub use Rattle.call_plan.specs.Knows.{IsWish, Idle, Gets, is_held, Flies, Droppable, HasOffered, IsThen, IsVisit, HasLeft, in_flight, Knows, KnowsTurn, Alone, is_served, HasPair, Settled, KnowsAsk, Heard, IsChange, is_of_arena}
 pub use Rattle.call_plan.specs.Laws.{Ready, KnowsNext, BatchesKnow, BeginsKnow, Has, RunsEndOnce, unheard, Keeps, stages_then, stages_later, left, left_then, left_visit, stages_visit, left_turn, left_ask, flights_of, Moves, stages, with_found, IsNearer, looks_left, purges_left, stages_ask, WantsStand, stages_turn, stages_change, StepsKeep}
 pub use Rattle.call_plan.specs.Reads.{ended_by}
-pub use Rattle.call_plan.specs.Needs.{Goes, IsPointOrEnd}
+pub use Rattle.call_plan.specs.Needs.{Goes, IsPointOrEnd, IsGiving, GivesNone, HasFewAddresses, IsFewAddresses, NamesFreely, named, named_addrs, named_next}
 pub use Rattle.call_plan.specs.Points.{IsSizedPoint, IsSizedNext}
 pub use Rattle.call_plan.specs.Refusals.{AfterDalloc, AfterRefusal, HoldsExtent, Rests, RefusalsStand}
 pub use Rattle.call_plan.specs.Rooms.{flying, empties, needed_ask, needed_next, needed_turn, room_then, RoomsSuffice}
-pub use Rattle.call_plan.specs.Runs.{page_align, batch_goes, begin_flush, begin_free, begin_get, begin_malloc, begin_memalign, begin_publish, get, share, wish_for, IsRun, begin, Moment, after, run, settle, step_next, begin_stage, small_hit, stage, begin_desk}
+pub use Rattle.call_plan.specs.Runs.{page_align, batch_goes, closed, moved, begin_flush, begin_free, begin_get, begin_malloc, begin_memalign, begin_publish, get, share, wish_for, IsRun, begin, Moment, after, run, settle, step_next, begin_stage, small_hit, stage, begin_desk}
 unfoldable pub use Rattle.call_plan.specs.Runs.{is_alignment}
 pub use Rattle.call_plan.specs.Table.{answered_span, decommitted, eased, forced, put_purged, returned, takes_left, turn_replied, done_at, is_marked, op_at, starved, step, told, want, commit, grant, grow, trim, skip_to, alloc_of, ask_at, chunks_for, whole_chunks, look_on, merged, onward, put_next, visited, took_over, need_chunks, skipped, trimmed, grown, needed, grant_split, committed, WantTurn, visit_gives}
 pub use Rattle.call_plan.specs.Words.{Stops, Leaves, IsAlignment, aligned_for, class_for, Malloc, Memalign, Free, Publish, Flush, Cache, Mine, Held, DeskFacts, most_regions, cached_in, BatchFacts, batch_of, freeing, going, caching, going_with, held_at, is_cacheable, Request, Item, Answered, Finished, Ok, NoSuchArena, TurnPoint, Filling, Looking, Landing, Giving, Finding, Offering, Point, Turns, Asks, Tells, Next, Go, Over, More, Gone, Ends, Nowhere, Stage, AskPoint, Skipping, Trimming, Growing, Paring, Needing, Granting, Committing, Merging, Easing, Returning, Decommitting, Forcing, Alloc, Commit, Split, Answer, Placed, Refuses, Whole, Refuse, Bad, Grown, Space, Span, Why, hit, Visit, Then, Visiting, Taking, Dalloc, Decommit, PurgeLazy, Done, Noted, Kept, Abandoned, Rest, ToDirty, ToMuzzy, ToRetained, Part, Sound, mine, same_span, AnswersTo, Replied, Told, Starved, Batches, Owning, Reply, AskFacts, Wish, Cut, end_of, land_at, Took, Grow, Landed, Regions, align_at, fill_at, lowest_free, max_series, NoMemory, Merge, Purge, FreeForeign, Take, Refused, BadAnswer, NotHeld, Change, Visits, Changing, NoArena, Nothing, Owned, Joined, Op, Advancing, Making, Resetting, Destroying, Dooming, Publishing, pages_at, Doomed, Setting, Taken}

@@ -3,7 +3,7 @@ use Rattle.std.specs.Prelude.{◌≡◌, ◌≤◌, ℕ, Bool, true, false, ◌|
 use Rattle.call_plan.specs.Words.{Request, Malloc, Memalign, Free, FreeForeign, Publish, Take, Region, Finished, Ok, TurnPoint, Filling, Looking, Landing, Owning, AskPoint, Merging, Easing, Returning, Decommitting, Forcing, Point, Turns, Asks, Tells, Next, Go, Ends, Stage, Held, DeskFacts}
 use Rattle.call_plan.specs.Desks.{flushes}
 use Rattle.call_plan.specs.Points.{IsSizedNext}
-use Rattle.call_plan.specs.Needs.{IsPointOrEnd}
+use Rattle.call_plan.specs.Needs.{IsPointOrEnd, named}
 use Rattle.call_plan.specs.Runs.{Moment}
 
 -- a call: its client, what that wants, and where it stands
@@ -15,6 +15,14 @@ pub record CallFacts : Type 0 where
 -- the moment of a call, with what its client has
 abbrev pub moment_of : CallFacts → DeskFacts → Moment
 moment_of call desk = record { request = call.request; desk = desk; stage = call.stage }
+
+-- a call with the regions named that go back next, by what its client has
+abbrev pub named_call : DeskFacts → CallFacts → CallFacts
+named_call desk call = record call { stage = named call.request desk call.stage }
+
+-- the moment of a call, with the regions named that go back next
+abbrev pub moment_at : CallFacts → DeskFacts → Moment
+moment_at call desk = moment_of (named_call desk call) desk
 
 -- what stands in a place once a call of a client began, for which this is next: the call, where it is open
 abbrev pub started : ℕ → Moment → Option CallFacts → Next → Option CallFacts

@@ -2,7 +2,7 @@
 use Rattle.std.specs.Prelude.{◌≡◌, ℕ, ◌-◌, ◌<◌, ◌≤◌, ◌^◌, ◌⊎◌, max, replicate, Bool, true, false, List, [], ◌∷◌, ◌++◌, fold, Contains, Option, None, Some, option_map}
 use Rattle.space_model.specs.Step.{why_not}
 use Rattle.call_plan.specs.Words.{Request, Malloc, Memalign, Free, FreeForeign, Publish, Take, PurgeAll, Decay, Time, Reset, Destroy, Create, Bind, HookBox, GrowLimit, Item, Replied, Told, Starved, Given, Region, Finished, Arena, Limits, Answered, Ok, Refused, BadAnswer, TooLarge, BadAlign, NotHeld, NoSuchArena, Busy, NoMemory, ArenasFull, Automatic, Wish, Next, Go, Ends}
-use Rattle.call_plan.specs.Words.{Ask, Alloc, Commit, Split, Placed, Refuses, NoArena, Nothing, Noted, Took, Grow, Cut, Whole, Grown, Landed, Regions, LimitsAre, Owned, InUse, Space, Part, Span, Why, Sound, AskFacts, Held, DeskFacts, IsAlignment, aligned_for, class_for, held_at, hit}
+use Rattle.call_plan.specs.Words.{Ask, Alloc, Commit, Split, Placed, Refuses, NoArena, Nothing, Noted, Took, Grow, Cut, Whole, Bad, Grown, Landed, Regions, LimitsAre, Owned, InUse, Space, Span, Why, Sound, AskFacts, Held, DeskFacts, IsAlignment, aligned_for, class_for, held_at, hit}
 use Rattle.call_plan.specs.Table.{alloc_of, want, whole_chunks}
 use Rattle.call_plan.specs.Runs.{Moment, after, begin, page_align, run, small_hit, wish_for}
 use Rattle.call_plan.specs.Laws.{Moves}
@@ -92,20 +92,22 @@ pub record RefusedCause (request : Request) (items : List Item) (asked : AskFact
   pub refused : asked.answer ≡ Refuses
   pub needed : IsNeeded wish earlier asked.ask
 
--- An alloc of this call placed the range, and this speaks against it: the extents of the arena and the chunk that was found
--- in another one are named by what they are.
+-- The last ask of this call was an alloc that placed the range, and the turn that took its answer in replied that this speaks
+-- against it, in a sound space and by a chunk of another arena that was found, if one was.
 pub record BadCause (request : Request) (items : List Item) (span : Span) (why : Why) : Type 0 where
   pub wish : Wish
   pub wished : IsWishOf request wish
   pub asked : AskFacts
-  pub told : Contains items (Told asked)
+  pub earlier : List Item
+  pub told : items ≡ earlier ++ Told asked ∷ Replied (Bad why) ∷ []
   pub alloc : asked.ask ≡ alloc_of wish span.pages
   pub is_committed : Bool
   pub zeroed : Bool
   pub placed : asked.answer ≡ Placed is_committed zeroed span.first
   pub found : Option ℕ
-  pub parts : List Part
-  pub against : why_not found (max 512 wish.align) parts span ≡ Some why
+  pub space : Space
+  pub sound : Sound space
+  pub against : why_not found (max 512 wish.align) space.parts span ≡ Some why
 
 -- the region at an address was cached, or it landed or was free in a slab
 abbrev pub GotCause : Option Held → List Item → ℕ → Type 0

@@ -1,6 +1,8 @@
 -- What a call tells that it needs, by where it stands.
-use Rattle.std.specs.Prelude.{◌≡◌, ◌≤◌, ℕ, length}
-use Rattle.call_plan.specs.Words.{Request, Malloc, Memalign, Free, Publish, Flush, Cache, TurnPoint, Giving, Turns, Next, Go, Ends, Nowhere}
+use Rattle.std.specs.Prelude.{◌≡◌, ◌≤◌, ℕ, false, List, [], ◌∷◌, length, IsSomeAnd}
+use Rattle.thread_cache.specs.Desks.{DeskFacts, addrs_in, going, is_cacheable}
+use Rattle.call_plan.specs.Words.{Request, Malloc, Memalign, Free, Publish, Flush, Cache, TurnPoint, Giving, Turns, Next, Go, Over, Ends, Nowhere, Stage}
+use Rattle.call_plan.specs.Desks.{flushes}
 use Rattle.call_plan.specs.declared.needs.Need.{Need}
 use Rattle.call_plan.specs.declared.needs.Need.TheVariants.{Turn as NeedsTurn, Ask as NeedsAsk, Done as IsDone, Starved as IsStarved}
 use Rattle.call_plan.specs.Table.{Want, WantTurn, WantAsk, want}
@@ -10,23 +12,68 @@ abbrev pub NeedsWant : ℕ → ℕ → Want → Need → Type 0
 NeedsWant client arena (WantTurn op asked) need = need ≡ NeedsTurn (record { arena = arena; client = client; op = op })
 NeedsWant client arena (WantAsk ask) need = need ≡ NeedsAsk arena ask
 
--- so few regions go back that no memory is wanted to name them
-abbrev pub HasFewAddresses : TurnPoint → Type 0
-HasFewAddresses (Giving addrs) = length addrs ≤ 2
-HasFewAddresses point = Unit {0}
+-- ---- the regions that go back, named
 
--- where a call goes next, so few regions go back that no memory is wanted to name them
-abbrev pub IsFewAddresses : Next → Type 0
-IsFewAddresses (Go (Turns point)) = HasFewAddresses point
-IsFewAddresses next = Unit {0}
+-- the addresses of a turn that gives regions back: those that it names, or, as long as it names none, those of all regions of the
+-- arena that are to go
+abbrev pub named_addrs : Request → DeskFacts → ℕ → List ℕ → List ℕ
+named_addrs request desk arena [] = addrs_in arena (going (flushes request) desk)
+named_addrs request desk arena (addr ∷ addrs) = addr ∷ addrs
 
--- The need of a client is what its call wants at a point, or the answer. It is starved only where more regions go back than can
--- be named without memory.
+-- a turn of an arena that names the regions which it gives back
+abbrev pub named_turn : Request → DeskFacts → ℕ → TurnPoint → TurnPoint
+named_turn request desk arena (Giving addrs) = Giving (named_addrs request desk arena addrs)
+named_turn request desk arena point = point
+
+-- where a call goes next, with the regions named that go back there
+abbrev pub named_next : Request → DeskFacts → ℕ → Next → Next
+named_next request desk arena (Go (Turns point)) = Go (Turns (named_turn request desk arena point))
+named_next request desk arena next = next
+
+-- where a call stands, with the regions named that go back there
+abbrev pub named : Request → DeskFacts → Stage → Stage
+named request desk at = record { arena = at.arena; next = named_next request desk at.arena at.next }
+
+-- regions go back next
+abbrev pub IsGiving : Next → Type 0
+IsGiving (Go (Turns (Giving addrs))) = Unit {0}
+IsGiving next = ⊥
+
+-- no regions go back where an item leads, before it is known which
+abbrev pub GivesNone : Next → Type 0
+GivesNone (Go (Turns (Giving addrs))) = ⊥
+GivesNone (Over index (Turns (Giving addrs))) = ⊥
+GivesNone next = Unit {0}
+
+-- no memory is wanted to name the regions that go back: it is the one in hand alone, which isn't to be cached, or they are named
+-- already and few
+abbrev pub NamesFreely : DeskFacts → List ℕ → Type 0
+NamesFreely desk [] = IsSomeAnd desk.hand (λ region. is_cacheable region.class desk ≡ false)
+NamesFreely desk addrs = length addrs ≤ 2
+
+-- so few regions go back where a call goes next that no memory is wanted to name them
+abbrev pub IsFewAddresses : DeskFacts → Next → Type 0
+IsFewAddresses desk (Go (Turns (Giving addrs))) = NamesFreely desk addrs
+IsFewAddresses desk next = Unit {0}
+
+-- so few regions go back where a call goes next that no memory is wanted to tell of them once they are named
+abbrev pub HasFewAddresses : Next → Type 0
+HasFewAddresses (Go (Turns (Giving addrs))) = length addrs ≤ 2
+HasFewAddresses next = Unit {0}
+
+-- ---- the need
+
+-- The need of a client is what its call wants at a point, or the answer. It is starved only where regions go back.
 abbrev pub NeedIs : ℕ → ℕ → Next → Need → Type 0
-NeedIs client arena next IsStarved = IsFewAddresses next → ⊥
+NeedIs client arena next IsStarved = IsGiving next
 NeedIs client arena (Go point) need = NeedsWant client arena (want point) need
 NeedIs client arena (Ends answer) need = need ≡ IsDone answer
 NeedIs client arena next need = ⊥
+
+-- the client isn't starved
+abbrev pub IsFed : Need → Type 0
+IsFed IsStarved = ⊥
+IsFed need = Unit {0}
 
 -- what the client has stays as it is where the request begins, and no memory is taken
 abbrev pub LeavesDesk : Request → Type 0

@@ -3,7 +3,7 @@ use Rattle.std.specs.Prelude.{◌≡◌, ℕ, ◌/◌, ◌^◌, ◌==◌, ◌&&�
 use Rattle.std.specs.List.{list_any, range_with_len}
 use Rattle.std.specs.Ordering.{int_eq}
 use Rattle.thread_cache.specs.Desks.{not_holding}
-use Rattle.call_plan.specs.Words.{Request, Malloc, Memalign, Free, FreeForeign, Publish, Take, Flush, Cache, PurgeAll, Decay, Time, Reset, Destroy, Create, Bind, HookBox, GrowLimit, Item, Region, Finished, Answered, Ok, TooLarge, BadAlign, NotHeld, NoSuchArena as NoArena, NoMemory, Automatic}
+use Rattle.call_plan.specs.Words.{Request, Malloc, Memalign, Free, FreeForeign, Publish, Take, Flush, Cache, PurgeAll, Decay, Time, Reset, Destroy, Create, Bind, HookBox, GrowLimit, Item, Region, Finished, Answered, Ok, TooLarge, BadAlign, NotHeld, NoSuchArena as NoArena, Automatic}
 use Rattle.call_plan.specs.Words.{Wish, Visit, Change, Stops, Visits, Leaves, TurnPoint, Filling, Looking, Giving, Taking, Advancing, Changing, Making, Resetting, Destroying, Publishing, Owning, Turns, Next, Go, Over, More, Gone, Ends, Nowhere, Stage}
 use Rattle.call_plan.specs.Words.{Rest, ToDirty, ToMuzzy, ToRetained, Setting, DirtyMs, MuzzyMs, SetBox, SetBound, SetLimit, MakeLive, Held, DeskFacts, aligned_for, class_for, pages_at, slots_at, most_regions, BatchFacts, batch_of, cached_of, freeing, going, going_with, held_at, hit, hitting}
 use Rattle.call_plan.specs.Table.{step}
@@ -200,11 +200,6 @@ moved request desk arena next = closed request desk (settle request desk arena n
 -- the moment after an item
 abbrev pub after : Moment → Item → Moment
 after at item = moved at.request (desk_fed at.desk at.stage.arena at.stage.next item) at.stage.arena (step_next at.stage.next item)
-
--- the moment after an item where the regions that are to go back next find no memory to be named
-abbrev pub starved_after : Moment → Item → Moment
-starved_after at item =
-    closed at.request (desk_fed at.desk at.stage.arena at.stage.next item) (stage at.stage.arena (Ends NoMemory))
 
 -- the moment after all items
 abbrev pub run : Moment → List Item → Moment

@@ -1,18 +1,18 @@
 //! The automaton of a call.
 
 ghost use Rattle.std.specs.Prelude.{◌≡◌, List, ◌∷◌, None, Some, IfNone, IfOk, IfSome, IsOk, OnOk, OnErr, ◌≤◌, ◌||◌, true, false, is_some, length};
-ghost use Rattle.call_plan.specs.Calls.{HasRoomToHold, may_hold, moment_of, started, takes_memory};
+ghost use Rattle.call_plan.specs.Calls.{HasRoomToHold, may_hold, moment_at, named_call, started, takes_memory};
 ghost use Rattle.call_plan.specs.Desks.{flushes};
 ghost use Rattle.call_plan.specs.Items.{Item as Fed, lent};
 ghost use Rattle.call_plan.specs.Points.{IsSizedNext};
-ghost use Rattle.call_plan.specs.Needs.{Goes, HasFewAddresses, IsPointOrEnd, NeedIs};
+ghost use Rattle.call_plan.specs.Needs.{Goes, GivesNone, HasFewAddresses, IsFed, IsFewAddresses, IsGiving, IsPointOrEnd, NeedIs, named};
 ghost use Rattle.call_plan.specs.Reads.{aimed, ended_by, heard_next, taken_next};
-ghost use Rattle.call_plan.specs.Runs.{after, begin, run, settle, stage, starved_after, step_next};
+ghost use Rattle.call_plan.specs.Runs.{after, begin, run, settle, stage, step_next};
 ghost use Rattle.call_plan.specs.Table.{op_at};
-ghost use Rattle.call_plan.specs.Stages.{Ends, Go, More, hears_next, led};
+ghost use Rattle.call_plan.specs.Stages.{Go, More, Turns, hears_next, led};
 ghost use Rattle.thread_cache.specs.Desks.{DeskFacts};
 
-use crate::{Answered, Item, Lead, Need, Request, Turn, TurnPoint};
+use crate::{Answered, Given, Item, Lead, Need, Request, Turn, TurnPoint};
 use hook_api::Asked;
 use size_classes::Addrs;
 use space_model::{Addresses, Ask, Op};
@@ -56,7 +56,8 @@ impl TurnPoint {
     /// The operation of the turn. `NoMemory` where there is none to name the regions that go back.
     fn op(&self, alloc: Global) -> Result<Op, NoMemory>
         ensures op { IfOk result (λ op. op ≡ op_at self.now) }
-        ensures few { HasFewAddresses self.now → IsOk result }
+        ensures few { HasFewAddresses (Go (Turns self.now)) → IsOk result }
+        ensures giving { OnErr result (IsGiving (Go (Turns self.now))) }
     {
         Ok(match self {
             TurnPoint::Filling(wish, count) => Op::Fill {
@@ -171,19 +172,17 @@ impl Stage {
         self.go(lead);
     }
 
-    /// It stands at the next batch of regions that go back, or at the end.
-    fn go_on(&mut self, alloc: Global, request: &Request, desk: &Desk) -> Result<(), NoMemory>
-        ensures stage { OnOk result (self.new ≡ settle request.now desk.now.facts self.old.arena More) }
-        ensures err { OnErr result (self.new ≡ stage self.old.arena (Ends Answered.NoMemory)) }
+    /// It stands at the next batch of regions that go back, which its turn names, or at the end. Takes no memory.
+    fn go_on(&mut self, alloc: Global, request: &Request, desk: &Desk)
+        ensures { named request.now desk.now.facts self.new ≡ settle request.now desk.now.facts self.old.arena More }
     {
-        match desk.batch(alloc, desk.hand(), request.flushes()) {
-            Ok(batch) => self.go_back(batch),
-            Err(error) => {
-                self.go(Lead::Ends(Answered::NoMemory));
-                return Err(error);
+        match desk.next_arena(desk.hand(), request.flushes()) {
+            Some(arena) => {
+                let unnamed = Addresses::new(Addrs::new(alloc));
+                self.stand(arena, TurnPoint::Giving(unnamed).next());
             }
+            None => self.go(Lead::Ends(Answered::Ok(Given::Done))),
         }
-        Ok(())
     }
 
     /// It stands where this leads.
@@ -196,27 +195,32 @@ impl Stage {
         self.lead = lead;
     }
 
-    /// It stands where a step leads, by what the client has then. `NoMemory` only where there is none to name several regions
-    /// that go back: the call has ended with that answer.
-    fn settle(
-        &mut self,
-        alloc: Global,
-        request: &Request,
-        desk: &Desk,
-        lead: Lead,
-    ) -> Result<(), NoMemory>
-        ensures stage { OnOk result (self.new ≡ settle request.now desk.now.facts self.old.arena (led lead None)) }
-        ensures more { OnErr result (led lead None ≡ More) }
-        ensures err { OnErr result (self.new ≡ stage self.old.arena (Ends Answered.NoMemory)) }
+    /// It stands where a step leads, by what the client has then. Takes no memory: the regions that go back are named at their
+    /// turn.
+    fn settle(&mut self, alloc: Global, request: &Request, desk: &Desk, lead: Lead)
+        requires { GivesNone (led lead None) }
+        ensures { named request.now desk.now.facts self.new ≡ settle request.now desk.now.facts self.old.arena (led lead None) }
     {
         match lead {
-            Lead::Over(arena, point) => {
-                self.arena = arena;
-                self.go(Lead::Turns(point));
-            }
-            Lead::More => return self.go_on(alloc, request, desk),
+            Lead::Over(arena, point) => self.stand(arena, Lead::Turns(point)),
+            Lead::More => self.go_on(alloc, request, desk),
             Lead::Gone => self.go(Lead::Ends(Answered::NoArena(self.arena))),
             lead => self.go(lead),
+        }
+    }
+
+    /// The turn that it stands at names the regions that go back, where it names none yet. Where memory is wanting nothing changes.
+    fn name(&mut self, alloc: Global, request: &Request, desk: &Desk) -> Result<(), NoMemory>
+        ensures named { OnOk result (self.new ≡ named request.now desk.now.facts self.old) }
+        ensures err { OnErr result (self.new ≡ self.old) }
+        ensures giving { OnErr result (IsGiving self.old.next) }
+        ensures few { IsFewAddresses desk.now.facts self.old.next → IsOk result × HasFewAddresses self.new.next }
+    {
+        if let Lead::Turns(TurnPoint::Giving(addrs)) = &self.lead {
+            if addrs.as_slice().is_empty() {
+                let addrs = desk.addrs_going(alloc, desk.hand(), request.flushes(), self.arena)?;
+                self.go(TurnPoint::Giving(Addresses::new(addrs)).next());
+            }
         }
         Ok(())
     }
@@ -225,7 +229,7 @@ impl Stage {
     fn hear(&mut self, item: Item<'_>) -> bool
         ensures hears { result ≡ hears_next self.old.next (lent item.entry) }
         ensures heard { (request : Request) (desk : DeskFacts) → result ≡ true
-            → self.new ≡ settle request desk self.old.arena (step_next self.old.next (lent item.entry)) }
+            → named request desk self.new ≡ settle request desk self.old.arena (step_next self.old.next (lent item.entry)) }
         ensures sized { IsSizedNext self.old.next → IsSizedNext self.new.next }
         ensures other { result ≡ false → self.new ≡ self.old }
     {
@@ -264,12 +268,13 @@ impl Stage {
         }
     }
 
-    /// What a client needs there, or the answer of its call. It is starved only where several regions go back.
+    /// What a client needs there, or the answer of its call. It is starved only where regions go back.
     #[inline(always)]
-    pub(crate) fn need(&self, alloc: Global, client: u32) -> Need
+    fn needed(&self, alloc: Global, client: u32) -> Need
         requires place { IsPointOrEnd self.now.next }
         requires sized { IsSizedNext self.now.next }
-        ensures { NeedIs client self.now.arena self.now.next result }
+        ensures need { NeedIs client self.now.arena self.now.next result }
+        ensures few { HasFewAddresses self.now.next → IsFed result }
     {
         match (&self.lead, &self.heard) {
             (Lead::Turns(point), _) => match point.op(alloc) {
@@ -287,25 +292,41 @@ impl Stage {
         }
     }
 
-    /// It takes in an item, by what the client has after it.
-    pub(crate) fn feed(
+    /// What a client needs there, with the regions named that go back, or the answer of its call. Where memory is wanting to name
+    /// them it is starved.
+    #[inline(always)]
+    pub(crate) fn need(
         &mut self,
         alloc: Global,
         request: &Request,
         desk: &Desk,
-        item: Item<'_>,
-    ) -> Result<(), NoMemory>
-        requires { IsSizedNext self.old.next }
-        ensures stage { OnOk result (self.new ≡ settle request.now desk.now.facts self.old.arena (step_next self.old.next (lent item.entry))) }
+        client: u32,
+    ) -> Need
+        requires place { IsPointOrEnd self.old.next }
+        requires sized { IsSizedNext self.old.next }
+        ensures need { NeedIs client self.old.arena (named request.now desk.now.facts self.old).next result }
+        ensures few { IsFewAddresses desk.now.facts self.old.next → IsFed result }
+        ensures named { named request.now desk.now.facts self.new ≡ named request.now desk.now.facts self.old }
+        ensures place { IsPointOrEnd self.new.next }
         ensures sized { IsSizedNext self.new.next }
-        ensures more { OnErr result (step_next self.old.next (lent item.entry) ≡ More) }
-        ensures err { OnErr result (self.new ≡ stage self.old.arena (Ends Answered.NoMemory)) }
+    {
+        match self.name(alloc, request, desk) {
+            Ok(()) => self.needed(alloc, client),
+            Err(_) => Need::Starved,
+        }
+    }
+
+    /// It takes in an item, by what the client has after it.
+    pub(crate) fn feed(&mut self, alloc: Global, request: &Request, desk: &Desk, item: Item<'_>)
+        requires { IsSizedNext self.old.next }
+        ensures stage { named request.now desk.now.facts self.new ≡ settle request.now desk.now.facts self.old.arena (step_next self.old.next (lent item.entry)) }
+        ensures sized { IsSizedNext self.new.next }
     {
         if self.hear(item) {
-            return Ok(());
+            return;
         }
         let lead = self.step(item);
-        self.settle(alloc, request, desk, lead)
+        self.settle(alloc, request, desk, lead);
     }
 }
 
@@ -365,12 +386,15 @@ impl Call {
         Ok(None)
     }
 
-    /// What the call needs next, or its answer. It is starved only where several regions go back: that turn then finds no
-    /// memory.
-    pub fn need(&self, alloc: Global) -> Need
-        ensures { NeedIs self.now.client self.now.stage.arena self.now.stage.next result }
+    /// What the call needs next, or its answer, with its client's desk, which is as the call left it but for held regions that
+    /// others were given since. The regions that go back next are named by it. Where memory is wanting for that it is starved, and
+    /// stands as it did: that turn then finds no memory.
+    pub fn need(&mut self, alloc: Global, desk: &Desk) -> Need
+        ensures need { NeedIs self.old.client self.old.stage.arena (named_call desk.now.facts self.old).stage.next result }
+        ensures few { IsFewAddresses desk.now.facts self.old.stage.next → IsFed result }
+        ensures named { named_call desk.now.facts self.new ≡ named_call desk.now.facts self.old }
     {
-        self.stage.need(alloc, self.client)
+        self.stage.need(alloc, &self.request, desk, self.client)
     }
 
     /// The ask whose answer the turn carries that it needs next, where it carries one.
@@ -424,21 +448,17 @@ impl Call {
     /// Takes in what came of its need, with its client's desk, which is as the call left it but for held regions that others
     /// were given since. The item is one that could come there.
     ///
-    /// The run of the call goes on as from here. `NoMemory` only where there is none to name the regions that go back next: the
-    /// call has ended with that answer.
-    pub fn next(&mut self, alloc: Global, desk: &mut Desk, item: Item<'_>) -> Result<(), NoMemory>
-        requires goes { Goes (after (moment_of self.old desk.old.facts) (lent item)).stage.next }
+    /// The run of the call goes on as from here. Takes no memory: the regions that go back next are named at their turn.
+    pub fn next(&mut self, alloc: Global, desk: &mut Desk, item: Item<'_>)
+        requires goes { Goes (after (moment_at self.old desk.old.facts) (lent item)).stage.next }
         requires room { HasRoomToHold desk.old.facts.hand desk.old.room self.old.stage.next }
         ensures client { self.new.client ≡ self.old.client }
-        ensures moment { OnOk result (moment_of self.new desk.new.facts ≡ after (moment_of self.old desk.old.facts) (lent item.entry)) }
-        ensures reads { OnOk result ((items : List Fed) → run (moment_of self.old desk.old.facts) (lent item.entry ∷ items) ≡ run (moment_of self.new desk.new.facts) items) }
-        ensures err { OnErr result (moment_of self.new desk.new.facts ≡ starved_after (moment_of self.old desk.old.facts) (lent item.entry)) }
-        ensures more { OnErr result (step_next self.old.stage.next (lent item.entry) ≡ More) }
+        ensures moment { moment_at self.new desk.new.facts ≡ after (moment_at self.old desk.old.facts) (lent item.entry) }
+        ensures reads { (items : List Fed) → run (moment_at self.old desk.old.facts) (lent item.entry ∷ items) ≡ run (moment_at self.new desk.new.facts) items }
         ensures room { HasRoomToHold desk.new.facts.hand desk.new.room self.new.stage.next }
     {
         self.stage.tell(desk, item);
-        let fed = self.stage.feed(alloc, &self.request, desk, item);
+        self.stage.feed(alloc, &self.request, desk, item);
         self.stage.close(&self.request, desk);
-        fed
     }
 }

@@ -136,7 +136,7 @@ pub enum Need {
     },
     /// Nothing: the call has ended.
     Done(Answered),
-    /// Nothing can be named: there is no memory for the addresses of several regions that go back next.
+    /// Nothing can be named: there is no memory for the addresses of the regions that go back next.
     Starved,
 }
 
@@ -205,7 +205,7 @@ pub enum Answered {
         /// How many clients are bound to the arena, where that matters.
         threads: u64,
     },
-    /// A turn found no memory, or there was none to name the regions that go back next.
+    /// A turn found no memory, or there was none to name the regions that it gives back.
     NoMemory,
     /// Every index has an arena.
     ArenasFull,

@@ -59,7 +59,7 @@ pub enum TurnPoint {
     Looking(Wish),
     /// The regions land in the extent.
     Landing(Wish, Span),
-    /// Regions at these addresses go back.
+    /// Regions at these addresses go back. None is named until that turn comes, but where a request begins with it.
     Giving(Addresses),
     /// Looking for a neighbour of an extent in flight.
     Finding {
@@ -182,7 +182,7 @@ pub enum Lead {
     Tells(Span, bool),
     /// To a turn of the arena with this index.
     Over(u32, TurnPoint),
-    /// To the next batch of regions that go back, or to the end.
+    /// To the turn that gives the next batch of regions back, or to the end.
     More,
     /// To the end, since the arena isn't live.
     Gone,

@@ -175,7 +175,7 @@ impl Then {
         match *reply {
             Reply::Beside(other) => self.beside(own, tries, fresh, other),
             Reply::Next(next) => self.put_next(next),
-            Reply::Purge { lazy } if fresh => self.drop_extent(own, lazy),
+            Reply::Purge { lazy } => self.drop_extent(own, lazy),
             _ => Lead::Nowhere,
         }
     }

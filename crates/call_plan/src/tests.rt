@@ -1,5 +1,7 @@
 //! Calls that are fed by hand, one reply or answer at a time.
 
+ghost use Rattle.std.specs.Prelude.{IsTrue};
+ghost use Rattle.call_plan.specs.Needs.{IsPointOrEnd};
 ghost use Rattle.call_plan.specs.Points.{IsSizedNext};
 
 use crate::{Answered, Given, Item, Lead, Need, Request, Stage};
@@ -34,6 +36,16 @@ struct Play {
     alloc: Global,
 }
 
+/// Whether it waits for a turn or an ask.
+fn waits(stage: &Stage) -> bool
+    ensures { IsTrue result → IsPointOrEnd stage.now.next }
+{
+    match &stage.lead {
+        Lead::Turns(_) | Lead::Asks(_) | Lead::Tells(..) => true,
+        _ => false,
+    }
+}
+
 impl Play {
     /// A request of a client is carried on by all steps of a script, from its start.
     fn run(
@@ -60,14 +72,14 @@ impl Play {
     }
 
     /// What it needs now, while it waits.
-    fn need(&self) -> Option<Need>
-        requires { IsSizedNext self.now.stage.next }
+    fn need(&mut self) -> Option<Need>
+        requires { IsSizedNext self.old.stage.next }
+        ensures { IsSizedNext self.new.stage.next }
     {
-        match &self.stage.lead {
-            Lead::Turns(_) | Lead::Asks(_) | Lead::Tells(..) => {
-                Some(self.stage.need(self.alloc, 1))
-            }
-            _ => None,
+        if waits(&self.stage) {
+            Some(self.stage.need(self.alloc, &self.request, &self.desk, 1))
+        } else {
+            None
         }
     }
 
@@ -79,15 +91,15 @@ impl Play {
         self.as_told = self.as_told && same;
         self.desk.reserve()?;
         self.stage.tell(&mut self.desk, item);
-        self.stage
-            .feed(self.alloc, &self.request, &self.desk, item)?;
+        self.stage.feed(self.alloc, &self.request, &self.desk, item);
         self.stage.close(&self.request, &mut self.desk);
         Ok(())
     }
 
     /// Its need is what the script says.
-    fn needs(&self, step: &Step<'_>) -> Result<bool, NoMemory>
-        requires { IsSizedNext self.now.stage.next }
+    fn needs(&mut self, step: &Step<'_>) -> Result<bool, NoMemory>
+        requires { IsSizedNext self.old.stage.next }
+        ensures { IsSizedNext self.new.stage.next }
     {
         match (self.need(), step) {
             (Some(Need::Turn(turn)), Step::Turn(text, _)) => {

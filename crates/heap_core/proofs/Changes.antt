@@ -71,6 +71,10 @@ seated_stays records owed owed' c owes = record { sound = λ o differ s was. was
 pub seat_is : (seats : List Seat) (c : ℕ) (seat : Seat) → length seats ≡ 32 → c < 32 → seat ≡ get_or seats c seat → seat ≡ seat_at seats c
 seat_is seats c seat number few is = is ∙ get_or_default seats c seat first_seat (omega (arith, number, few))
 
+-- a client that is as it was leaves all as they were
+pub same_seat : (seats : List Seat) (c : ℕ) (seat new : Seat) → length seats ≡ 32 → c < 32 → seat ≡ get_or seats c seat → new ≡ seat → slice_set seats c new ≡ seats
+same_seat seats c seat new number few is same = ap (slice_set seats c) (same ∙ seat_is seats c seat number few is) ∙ set-get_or seats c first_seat
+
 -- ---- a request begins, and so does a heap
 
 -- a free of a region of another client is in range too

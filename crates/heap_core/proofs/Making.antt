@@ -1,6 +1,6 @@
 -- What a turn, an ask or the want of memory leaves of a heap, and what a step then tells.
-use Rattle.heap_core.proofs.Words.{inl, inr, ◌≡◌, ◌≢◌, ◌≤◌, ◌<◌, ℕ, ◌+◌, Bool, true, false, List, Option, None, Some, Result, Ok, Err, IsSomeAnd, slice_set, refl, sym, ap, subst, ◌∙◌, arith, Shelf, opens, Ask, AnswersTo, Op, Point, Go, Want, Reply, AskFacts, Replied, Told, Starved, Answered, More, Item, moment_of, Goes, CallFacts, want, Moment, after, starved_after, WantTurn, WantAsk, is_marked, step, IsArenas, reply_in, room_in, spaces_of, with_chunk_found, CanTurn, after_turn, FedTo, HeapFacts, IsStep, IsSure, holder_for, DidTurn, owed_to, IsHeap, owing, Record, Seat, seat_at, seat_of, Comes, SeatSound, MadeTurn, item_of, is_some, get_or, get_or_default, position-Some, Publish, not_holding, Held, held_at, Next, taken_next, holding_client, asks_next, first_seat, holder_of, HolderIs, TurnFacts, region_in_seat}
-use Rattle.heap_core.proofs.Wanting.{GoesOn, IsFed, Starving, Wanted, asks_promised, fed_at, few_asks, opens_marked, owed_after, owed_asked, room_asked, some_has, starved_ends, told_on}
+use Rattle.heap_core.proofs.Words.{◌≡◌, ◌≢◌, ◌≤◌, ◌<◌, ℕ, ◌+◌, Bool, true, false, List, Option, None, Some, Result, Ok, Err, IsSomeAnd, slice_set, refl, sym, ap, subst, ◌∙◌, arith, Shelf, opens, Ask, AnswersTo, Op, Point, Go, Want, Reply, AskFacts, Replied, Told, Starved, Answered, Item, moment_of, Goes, CallFacts, want, Moment, after, WantTurn, WantAsk, is_marked, step, IsArenas, reply_in, room_in, spaces_of, with_chunk_found, CanTurn, after_turn, FedTo, HeapFacts, IsStep, IsSure, holder_for, DidTurn, owed_to, IsHeap, owing, Record, Seat, seat_at, seat_of, Comes, SeatSound, MadeTurn, item_of, is_some, get_or, get_or_default, position-Some, Publish, not_holding, Held, held_at, Next, taken_next, holding_client, asks_next, first_seat, holder_of, HolderIs, TurnFacts, region_in_seat}
+use Rattle.heap_core.proofs.Wanting.{GoesOn, IsFed, Starving, Wanted, asks_promised, fed_at, few_asks, opens_marked, owed_after, owed_asked, room_asked, some_has, starved_ends}
 use Rattle.heap_core.proofs.Changes.{Stays, heap_changed, room_used, seated_stays, turned_stays, room_elsewhere}
 use Rattle.heap_core.proofs.Sitting.{asks-sit, starves-sit, turns-sit, holders-publish}
 
@@ -9,7 +9,6 @@ use Rattle.heap_core.proofs.Sitting.{asks-sit, starves-sit, turns-sit, holders-p
 -- What an item leaves of a client that is fed it, and of all others, in the arenas after it.
 pub record Leads (records records' : List Record) (owed owed' : List ℕ) (c : ℕ) (at : Moment) (point : Point) (item : Item) : Type 0 where
   pub comes : Comes records' c (after at item)
-  pub more : step point item ≡ More → SeatSound records' c (seat_of c (starved_after at item))
   pub owes : owing records' c (seat_of c (after at item)).call ≤ owed_to owed' c
   pub stays : Stays records records' owed owed' c
 
@@ -25,13 +24,8 @@ module _ (h : HeapFacts) (records' : List Record) (owed owed' : List ℕ) (c : �
   -- and the heap is as it has to be once it was
   pub led_heap : (ended : Option Answered) (new : Seat) → IsHeap h.records h.seats owed → c < 32 → IsFed item ended new old → IsHeap records' (slice_set h.seats c new) owed'
   led_heap ended new heap few fed =
-      elim (fed_at h.records c old wants arena item ended new w fed) [
-        | inl went ↦ sat (after (moment_of w.call old.desk) item) went.0 leads.comes.1 leads.owes
-        | inr off ↦ sat (starved_after (moment_of w.call old.desk) item) off.0 (leads.more off.2) (omega arith)
-      ]
-    where
-      sat : (m : Moment) → new ≡ seat_of c m → SeatSound records' c (seat_of c m) → owing records' c (seat_of c m).call ≤ owed_to owed' c → IsHeap records' (slice_set h.seats c new) owed'
-      sat m same sound owes = subst (λ s. IsHeap records' (slice_set h.seats c s) owed') (sym same) (heap_changed h.records records' h.seats owed owed' c (seat_of c m) heap few leads.stays sound owes)
+      subst (λ s. IsHeap records' (slice_set h.seats c s) owed') (sym (fed_at h.records c old wants arena item ended new w fed).0)
+      (heap_changed h.records records' h.seats owed owed' c (seat_of c (after (moment_of w.call old.desk) item)) heap few leads.stays leads.comes.1 leads.owes)
 
 -- what a step of a client told by a turn, whatever shelf there is
 abbrev pub IsDone : HeapFacts → ℕ → Option Answered → HeapFacts → Type 0
@@ -46,7 +40,6 @@ starve_leads records owed owed' c seat arenas few others s =
     let ends = starved_ends records c seat s.op s.asked s.arena w s.marked in
     let came = starves-sit records c seat.desk w.call w.point s.op s.asked arenas few w.goes w.sits w.want_is s.marked in record {
       comes = came;
-      more = λ more. subst (λ m. SeatSound records c (seat_of c m)) ends came.1;
       owes = subst (λ m. owing records c (seat_of c m).call ≤ owed_to owed' c) (sym ends) (omega arith);
       stays = seated_stays records owed owed' c others;
     }
@@ -66,7 +59,7 @@ module _ (h : HeapFacts) (c : ℕ) (op : Op) (asked : Option AskFacts) (arena : 
   abbrev then : List Record
   then = after_turn h.records there c op asked
 
-  led : CanTurn h.records c there op asked × Comes then c (after at (Replied reply)) × (step w.point (Replied reply) ≡ More → SeatSound then c (seat_of c (starved_after at (Replied reply))))
+  led : CanTurn h.records c there op asked × Comes then c (after at (Replied reply))
   led = turns-sit h.records c (seat_at h.seats c).desk w.call w.point op asked arenas few w.goes w.sits w.want_is
 
   -- it can be made
@@ -108,7 +101,6 @@ module _ (h : HeapFacts) (c : ℕ) (op : Op) (asked : Option AskFacts) (arena : 
       by (Ok told) is =
           subst (λ rs. Leads h.records rs owed owed' c at w.point (Replied told)) (sym is.after) (subst (λ r. Leads h.records then owed owed' c at w.point (Replied r)) (sym is.reply) (record {
             comes = led.1;
-            more = led.2;
             owes = owed_after then c (owed_to owed' c) at (Replied reply) (places owed owed' promised is.kept (subst (λ rs. opens op ≡ true → room_in rs there c + 1 ≤ owed_to owed' c) is.after is.places));
             stays = turned_stays h.records owed owed' c there op asked arenas w.sits.waits.there led.0 is.others;
           }))
@@ -127,7 +119,6 @@ pub ask_leads : (records : List Record) (owed owed' : List ℕ) (c arena : ℕ) 
     ((o : ℕ) → o ≢ c → owed_to owed' o ≡ owed_to owed o) → owing records c seat.call ≤ owed_to owed c → owed_to owed c ≤ owed_to owed' c + 1 → Leads records records owed owed' c (moment_of w.call seat.desk) w.point (Told asked)
 ask_leads records owed owed' c arena seat ask asked arenas few w is answers others promised one = record {
   comes = asks-sit records c seat.desk w.call w.point asked arenas few w.goes w.sits (w.want_is ∙ ap WantAsk (sym is)) answers;
-  more = λ more. absurd (told_on w.point ask asked w.want_is more);
   owes = owed_asked records c (owed_to owed' c) seat ask asked arena w (omega (arith, promised, one));
   stays = seated_stays records owed owed' c others;
 }

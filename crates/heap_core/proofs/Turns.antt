@@ -156,7 +156,6 @@ module _ (records : List Record) (c : ℕ) (desk : DeskFacts) (call : CallFacts)
   -- what is so after the turn at a point
   pub record Turned (point : Point) : Type 0 where
     pub comes : Comes rest c (moved call.request (desk_fed desk arena (Go point) (Replied reply)) arena (step point (Replied reply)))
-    pub starves : step point (Replied reply) ≡ More → SeatSound rest c (seat_of c (closed call.request (desk_fed desk arena (Go point) (Replied reply)) (stage arena (Ends NoMemory))))
 
   turned_from : (point : Point) (extra : List Held) → Owns rest c extra (desk_fed desk arena (Go point) (Replied reply)) → CanTurn records c arena op asked → arena < 32 →
       WaitsNext rest c arena (step point (Replied reply)) → Suited extra (desk_fed desk arena (Go point) (Replied reply)) call.request arena (step point (Replied reply)) → Turned point
@@ -164,7 +163,6 @@ module _ (records : List Record) (c : ℕ) (desk : DeskFacts) (call : CallFacts)
       let is_then : IsArenas rest = turned_is records arena c op asked is there can.stands in
       let after : DeskFacts = desk_fed desk arena (Go point) (Replied reply) in record {
         comes = comes_on rest c arena call.request after extra (step point (Replied reply)) is_then owns waits suits;
-        starves = λ more. ends_rest rest c arena call.request after extra NoMemory is_then owns (subst (WaitsNext rest c arena) more waits) (subst (Suited extra after call.request arena) more suits);
       }
 
   turn_at : (point : Point) → Sits records c desk call.request arena point → want point ≡ WantTurn op asked → CanTurn records c arena op asked →
@@ -192,7 +190,6 @@ turns-sit records c desk call point op asked is few at sits wants =
     let item : Item = Replied (reply_in records call.stage.arena c (with_chunk_found (spaces_of records) call.stage.arena op)) in (
       leads.0,
       subst (λ next. Comes (after_turn records call.stage.arena c op asked) c (moved call.request (desk_fed desk call.stage.arena next item) call.stage.arena (step_next next item))) (sym at) turned.comes,
-      λ more. subst (λ next. SeatSound (after_turn records call.stage.arena c op asked) c (seat_of c (closed call.request (desk_fed desk call.stage.arena next item) (stage call.stage.arena (Ends NoMemory))))) (sym at) (turned.starves more),
     )
 
 -- an answer to an ask leaves what the client has

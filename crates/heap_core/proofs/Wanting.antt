@@ -1,5 +1,5 @@
 -- What a client's open call wants, and where a step for it leads.
-use Rattle.heap_core.proofs.Words.{◌≡◌, ◌⊎◌, ◌≤◌, ℕ, ◌+◌, true, false, List, Option, None, Some, IfSome, IsSomeAnd, refl, sym, ap, subst, ◌∙◌, arith, opens, Item, Told, Starved, Answered, NoMemory, Point, Next, Go, More, Ends, Ask, Op, AskFacts, DeskFacts, Need, NeedsTurn, NeedsAsk, Turn, CallFacts, moment_of, desk_fed, Goes, NeedIs, NeedsWant, heard_next, Moment, after, moved, starved_after, step_next, Want, WantTurn, WantAsk, is_marked, step, want, room_in, FedTo, never_starves, HeapFacts, asks_at, asks_next, owing, Record, Seat, answer_of, heard_by, seat_at, seat_of, IsSeated, SeatSound, Sits, SitsAt, IsMarked, Needs, StarvesAt, StarvesNext, nat_tests, Request, Replied, Filling, Skipping, Turns, Asks, Over, Nothing, begin, begin_desk, begin_stage, closed, stage, Result, Ok, Err, OnOk, OnErr, Held, HasRoomToHold, started, ended_by, open_call}
+use Rattle.heap_core.proofs.Words.{◌≡◌, ◌≤◌, ℕ, ◌+◌, true, false, List, Option, None, Some, IfSome, IsSomeAnd, refl, sym, ap, subst, ◌∙◌, arith, opens, Item, Told, Starved, Answered, NoMemory, Point, Next, Go, Ends, Op, Ask, AskFacts, DeskFacts, Need, NeedsTurn, NeedsAsk, Turn, CallFacts, moment_of, desk_fed, Goes, NeedIs, NeedsWant, heard_next, Moment, Stage, after, moved, named, named_call, moment_at, begins_named, not_holding, option_map, aimed, taken_next, step_next, Want, WantTurn, WantAsk, is_marked, step, want, room_in, FedTo, never_starves, HeapFacts, asks_at, asks_next, owing, Record, Seat, answer_of, heard_by, seat_at, seat_of, IsSeated, SeatSound, Sits, SitsAt, IsMarked, Needs, StarvesAt, StarvesNext, TakesAt, nat_tests, Request, Replied, Filling, Skipping, Turns, Asks, Over, Nothing, begin, begin_desk, begin_stage, closed, stage, Held, HasRoomToHold, started, ended_by, open_call}
 
 -- ---- the point of an open call
 
@@ -91,13 +91,9 @@ GoesOn item seat = IsSomeAnd seat.call (λ call. Goes (after (moment_of call sea
 abbrev pub IsFed : Item → Option Answered → Seat → Seat → Type 0
 IsFed item ended new seat = IfSome seat.call (λ call. FedTo call seat.desk item ended new)
 
--- what an item leaves of a client and tells it: the call goes on or has its answer, or no memory is left for what goes back next
-abbrev pub FedAs : ℕ → Moment → Next → Item → Option Answered → Seat → Type 0
-FedAs c at next item ended new = ((new ≡ seat_of c (after at item)) × (ended ≡ answer_of (after at item))) ⊎ ((new ≡ seat_of c (starved_after at item)) × (ended ≡ Some NoMemory) × (step_next next item ≡ More))
-
 pub fed_at : (records : List Record) (c : ℕ) (seat : Seat) (wants : Want) (arena : ℕ) (item : Item) (ended : Option Answered) (new : Seat) (w : Wanted records c seat wants arena) →
-    IsFed item ended new seat → FedAs c (moment_of w.call seat.desk) (Go w.point) item ended new
-fed_at records c seat wants arena item ended new w fed = let same = w.is in let client = w.client in let goes = w.goes in grind arith
+    IsFed item ended new seat → (new ≡ seat_of c (after (moment_of w.call seat.desk) item)) × (ended ≡ answer_of (after (moment_of w.call seat.desk) item))
+fed_at records c seat wants arena item ended new w fed = let same = w.is in let client = w.client in grind arith
 
 -- what the call was promised is what may be asked at its point
 pub asks_promised : (records : List Record) (c n : ℕ) (seat : Seat) (wants : Want) (arena : ℕ) (w : Wanted records c seat wants arena) → owing records c seat.call ≤ n → asks_at (room_in records w.call.stage.arena c) w.point ≤ n
@@ -119,7 +115,7 @@ starves_to point op asked wants marked = grind (arith, never_starves)
 
 -- the call has ended
 pub starved_ends : (records : List Record) (c : ℕ) (seat : Seat) (op : Op) (asked : Option AskFacts) (arena : ℕ) (w : Wanted records c seat (WantTurn op asked) arena) → is_marked op ≡ true →
-    after (moment_of w.call seat.desk) Starved ≡ starved_after (moment_of w.call seat.desk) Starved
+    after (moment_of w.call seat.desk) Starved ≡ closed w.call.request (desk_fed seat.desk w.call.stage.arena w.call.stage.next Starved) (stage w.call.stage.arena (Ends NoMemory))
 starved_ends records c seat op asked arena w marked =
     let at : Moment = moment_of w.call seat.desk in
     ap (λ next. moved at.request (desk_fed at.desk at.stage.arena at.stage.next Starved) at.stage.arena next)
@@ -140,10 +136,6 @@ owed_asked records c n seat ask asked arena w few =
     subst (λ next. owing records c (seat_of c (moved at.request (desk_fed at.desk at.stage.arena at.stage.next (Told asked)) at.stage.arena next)).call ≤ n)
     (sym (ap (λ next. step_next next (Told asked)) w.goes)) (owed_told records c n at w.point ask asked w.want_is here)
 
--- no more goes back next
-pub told_on : (point : Point) (ask : Ask) (asked : AskFacts) → want point ≡ WantAsk ask → step point (Told asked) ≡ More → ⊥
-told_on point ask asked wants more = grind arith
-
 -- ---- whose turn it is
 
 pub turn_client : (records : List Record) (c : ℕ) (seat : Seat) (turn : Turn) → SeatSound records c seat → Needs seat.call (NeedsTurn turn) → turn.client ≡ c
@@ -152,11 +144,6 @@ turn_client records c seat turn sound needs =
     let s : IsSeated records c seat.desk (Some k.0) = subst (IsSeated records c seat.desk) k.1 sound in
     let g = goes_on records c seat.desk k.0 k.0.stage.next s.1 in
     (turn_needed k.0.client k.0.stage.arena g.0 turn (subst (λ next. NeedIs k.0.client k.0.stage.arena next (NeedsTurn turn)) g.1 k.2)).2 ∙ s.0
-
--- what a client's call told is what it needs, seen of the heap
-pub turn_told : (h now : HeapFacts) (c : ℕ) (turn : Turn) (seat : Seat) (call : CallFacts) (need : Need) → h ≡ now → SeatSound h.records c (seat_at h.seats c) → seat ≡ seat_at h.seats c →
-    seat.call ≡ Some call → NeedIs call.client call.stage.arena call.stage.next need → need ≡ NeedsTurn turn → Needs (seat_at now.seats turn.client).call (NeedsTurn turn)
-turn_told h now c turn seat call need view sound at is told same = grind (arith, turn_client)
 
 -- ---- how many asks may come where a call goes next: no more than its client has room in its arena, and one
 
@@ -211,15 +198,60 @@ pub room_kept : (c room : ℕ) (hand : Option Held) (at : Moment) (next : Next) 
     IfSome kept (λ call. HasRoomToHold hand room call.stage.next)
 room_kept c room hand at next kept is has = grind arith
 
+-- ---- a call with the regions named that go back next
+
+-- it is open as long as the call is
+named_open : (c : ℕ) (desk : DeskFacts) (call : CallFacts) → option_map (named_call desk) (open_call c (moment_of call desk) call.stage.next) ≡ open_call c (moment_at call desk) (named_call desk call).stage.next
+named_open c desk call = grind arith
+
+named_ends : (desk : DeskFacts) (call : CallFacts) → ended_by (named_call desk call).stage.next ≡ ended_by call.stage.next
+named_ends desk call = grind arith
+
 -- a call that began in a free place is kept there while it is open
-pub started_open : (c : ℕ) (at : Moment) (next : Next) → started c at None next ≡ open_call c at next
-started_open c at next = grind arith
+pub started_open : (c : ℕ) (request : Request) (had desk : DeskFacts) → option_map (named_call desk) (started c (begin request had) None (begin request had).stage.next) ≡ open_call c (begin request had) (begin request had).stage.next
+started_open c request had desk = by (begin_stage request had) (begins_named request had desk)
+  where
+    by : (at : Stage) → named request desk at ≡ at →
+        option_map (named_call desk) (started c (closed request (begin_desk request had) at) None at.next) ≡ open_call c (closed request (begin_desk request had) at) at.next
+    by at same = grind arith
+
+-- the held regions don't matter
+pub named_lost : (addr : ℕ) (desk : DeskFacts) (call : Option CallFacts) → option_map (named_call (not_holding addr desk)) call ≡ option_map (named_call desk) call
+named_lost addr desk call = by desk.hand refl
+  where
+    by : (hand : Option Held) → desk.hand ≡ hand → option_map (named_call (not_holding addr desk)) call ≡ option_map (named_call desk) call
+    by hand e = grind arith
+
+-- it hears, takes over and is aimed as before
+pub named_hears : (desk : DeskFacts) (call : Option CallFacts) → heard_by (option_map (named_call desk) call) ≡ heard_by call
+named_hears desk call = grind arith
+
+pub named_takes : (desk : DeskFacts) (call : CallFacts) → taken_next (named_call desk call).stage.next ≡ taken_next call.stage.next
+named_takes desk call = grind arith
+
+pub named_aims : (arena : ℕ) (desk : DeskFacts) (call : CallFacts) → TakesAt (Some (named_call desk call)) → named_call desk (aimed call arena) ≡ aimed (named_call desk call) arena
+named_aims arena desk call takes = grind arith
+
+-- there is room for the region that it may get
+pub named_rooms : (room : ℕ) (hand : Option Held) (desk : DeskFacts) (call call' : CallFacts) → named_call desk call' ≡ named_call desk call → HasRoomToHold hand room call.stage.next → HasRoomToHold hand room call'.stage.next
+named_rooms room hand desk call call' same has = aft desk call' (subst (λ (f : CallFacts). HasRoomToHold hand room f.stage.next) (sym same) (fore desk call has))
+  where
+    fore : (desk : DeskFacts) (call : CallFacts) → HasRoomToHold hand room call.stage.next → HasRoomToHold hand room (named_call desk call).stage.next
+    fore desk call has = grind arith
+
+    aft : (desk : DeskFacts) (call : CallFacts) → HasRoomToHold hand room (named_call desk call).stage.next → HasRoomToHold hand room call.stage.next
+    aft desk call has = grind arith
 
 -- What the call and its client's desk are after an item is what the client is then.
-pub fed_to : {A E : Type 0} (seat : Seat) (desk desk' : DeskFacts) (call call' : CallFacts) (item : Item) (named : Result A E) (place : Option CallFacts) (ended : Option Answered) →
-    record { desk = desk; call = Some call } ≡ seat → call'.client ≡ call.client → OnOk named (moment_of call' desk' ≡ after (moment_of call desk) item) →
-    OnErr named (moment_of call' desk' ≡ starved_after (moment_of call desk) item) → OnErr named (step_next call.stage.next item ≡ More) →
+pub fed_to : (seat : Seat) (desk desk' : DeskFacts) (call call' : CallFacts) (item : Item) (place : Option CallFacts) (ended : Option Answered) →
+    record { desk = desk; call = Some (named_call desk call) } ≡ seat → call'.client ≡ call.client → moment_at call' desk' ≡ after (moment_at call desk) item →
     place ≡ open_call call'.client (moment_of call' desk') call'.stage.next → ended ≡ ended_by call'.stage.next →
-    IfSome seat.call (λ k. FedTo k seat.desk item ended (record { desk = desk'; call = place }))
-fed_to seat desk desk' call call' item (Ok named) place ended view client ok err more kept answer = grind arith
-fed_to seat desk desk' call call' item (Err error) place ended view client ok err more kept answer = grind arith
+    IfSome seat.call (λ k. FedTo k seat.desk item ended (record { desk = desk'; call = option_map (named_call desk') place }))
+fed_to seat desk desk' call call' item place ended view client moves kept answer =
+    subst (λ (s : Seat). IfSome s.call (λ k. FedTo k s.desk item ended (record { desk = desk'; call = option_map (named_call desk') place }))) view (
+      shows ∙ ap (seat_of call.client) moves,
+      answer ∙ sym (named_ends desk' call') ∙ ap answer_of moves,
+    )
+  where
+    shows : record { desk = desk'; call = option_map (named_call desk') place } ≡ seat_of call.client (moment_at call' desk')
+    shows = ap (λ k. record { desk = desk'; call = k }) (ap (option_map (named_call desk')) kept ∙ named_open call'.client desk' call' ∙ ap (λ c. open_call c (moment_at call' desk') (named_call desk' call').stage.next) client)

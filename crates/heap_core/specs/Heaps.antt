@@ -1,7 +1,7 @@
 -- A heap, and what a step of a client does to it.
 use Rattle.std.specs.Prelude.{◌≡◌, ◌⊎◌, ℕ, true, false, List, [], ◌∷◌, ◌++◌, Option, None, Some, replicate, slice_set}
 use Rattle.space_model.specs.declared.entries.Op.TheVariants.{Publish}
-use Rattle.heap_core.specs.Words.{AskStep, Shelf, not_holding, Op, AskFacts, Held, held_at, Request, Item, Replied, Told, Starved, Answered, NoMemory, Next, Go, More, CallFacts, moment_of, aimed, taken_next, Moment, after, starved_after, step_next, Want, WantTurn, WantAsk, is_marked, want}
+use Rattle.heap_core.specs.Words.{AskStep, Shelf, not_holding, Op, AskFacts, Held, held_at, Request, Item, Replied, Told, Starved, Answered, NoMemory, Next, Go, CallFacts, moment_of, aimed, taken_next, Moment, after, Want, WantTurn, WantAsk, is_marked, want}
 use Rattle.heap_core.specs.declared.heaps.Did.TheVariants.{Idle, Turn, Ask}
 use Rattle.heap_core.specs.Arenas.{opening_records, record_at, reply_in, spaces_of, records_turned}
 use Rattle.heap_core.specs.Chunks.{with_chunk_found}
@@ -101,24 +101,16 @@ answered_by h c call op (Some holder) = None
 abbrev pub starved_on : HeapFacts → ℕ → CallFacts → HeapFacts
 starved_on h c call = seated h c (seat_of c (moment_after h c call Starved))
 
--- the heap after a turn of a call where no memory was left to name what goes back next: the call has ended
-abbrev pub unnamed_on : HeapFacts → ℕ → CallFacts → Op → Option AskFacts → HeapFacts
-unnamed_on h c call op asked =
-    record (seated h c (seat_of c (starved_after (moment_of call (seat_at h.seats c).desk) (replied h c call op)))) {
-      records = records_after h c call op asked;
-    }
-
--- Memory was wanting: for a turn that takes some, or behind the turn that a call wants, to name the regions that go back next.
-abbrev pub IsStarved : HeapFacts → ℕ → CallFacts → Op → Option AskFacts → HeapFacts → Type 0
-IsStarved h c call op asked new = ((is_marked op ≡ true) × (new ≡ starved_on h c call))
-    ⊎ ((holder_for h call ≡ None) × (step_next call.stage.next (replied h c call op) ≡ More) × (new ≡ unnamed_on h c call op asked))
+-- memory was wanting for a turn that takes some, or to name the regions that it gives back: no turn was made
+abbrev pub IsStarved : HeapFacts → ℕ → CallFacts → Op → HeapFacts → Type 0
+IsStarved h c call op new = (is_marked op ≡ true) × (new ≡ starved_on h c call)
 
 -- what a step told, and the heap and the shelf after it, where the call wants this: a turn was made, or memory was wanting,
 -- or the arena's box answered the ask
 abbrev pub IsStepFor : HeapFacts → Shelf → ℕ → CallFacts → Want → Stepped → HeapFacts → Shelf → Type 0
 IsStepFor h shelf c call (WantTurn op asked) stepped new shelf' = (stepped.did ≡ Turn) × (shelf' ≡ shelf)
     × (((new ≡ turned_for h c call op asked (holder_for h call)) × (stepped.ended ≡ answered_by h c call op (holder_for h call)))
-    ⊎ (IsStarved h c call op asked new × (stepped.ended ≡ Some NoMemory)))
+    ⊎ (IsStarved h c call op new × (stepped.ended ≡ Some NoMemory)))
 IsStepFor h shelf c call (WantAsk ask) stepped new shelf' = (asked : AskFacts) × (stepped.did ≡ Ask) × (asked.ask ≡ ask)
     × (asked.box_no ≡ (record_at h.records call.stage.arena).space.box_no) × AskStep shelf asked shelf'
     × (new ≡ told_to h c call asked) × (stepped.ended ≡ answer_of (moment_after h c call (Told asked)))

@@ -1,7 +1,7 @@
 -- What is so of a client among the arenas of a heap: the regions that it has are those that it holds there, each once, and its
 -- open call knows what it has to.
 use Rattle.std.specs.Prelude.{◌≡◌, ◌≢◌, ℕ, ◌+◌, ◌<◌, ◌≤◌, ◌==◌, ◌&&◌, ◌++◌, ◌∷◌, [], Bool, true, false, IsTrue, List, Option, None, Some, count_by, length, map, All}
-use Rattle.heap_core.specs.Words.{flat_map, SpaceRegion, stands, entry_of, not_holding, Request, Item, Replied, Told, Starved, Then, Batches, Visiting, Change, Stops, Visits, Leaves, TurnPoint, Filling, Looking, Landing, Giving, Finding, Offering, Changing, Resetting, Destroying, Publishing, Owning, AskPoint, Skipping, Trimming, Growing, Paring, Needing, Granting, Committing, Merging, Easing, Returning, Decommitting, Forcing, Point, Turns, Asks, Tells, Next, Go, More, Op, Setting, Unbind, SetBound as Bind, AskFacts, Held, DeskFacts, batch_of, cached_of, going, held_at, AnswersTo, slots_at, cached_in, CallFacts, moment_of, flushes, IsInRange, Goes, Moment, after, begin, starved_after, WantTurn, WantAsk, is_marked, step, want}
+use Rattle.heap_core.specs.Words.{flat_map, SpaceRegion, stands, entry_of, not_holding, Request, Item, Replied, Told, Starved, Then, Batches, Visiting, Change, Stops, Visits, Leaves, TurnPoint, Filling, Looking, Landing, Giving, Finding, Offering, Changing, Resetting, Destroying, Publishing, Owning, AskPoint, Skipping, Trimming, Growing, Paring, Needing, Granting, Committing, Merging, Easing, Returning, Decommitting, Forcing, Point, Turns, Asks, Tells, Next, Go, Op, Setting, Unbind, SetBound as Bind, AskFacts, Held, DeskFacts, batch_of, cached_of, going, held_at, AnswersTo, slots_at, cached_in, CallFacts, moment_of, flushes, IsInRange, Goes, Moment, after, begin, WantTurn, WantAsk, is_marked, step, want}
 use Rattle.space_model.specs.declared.entries.Op.TheVariants.{Publish}
 use Rattle.heap_core.specs.Arenas.{IsArenas, opening_records, record_at, reply_in, spaces_of}
 use Rattle.heap_core.specs.Chunks.{with_chunk_found}
@@ -149,14 +149,13 @@ abbrev pub StartsSit : Type 0
 StartsSit = (records : List Record) (c : ℕ) (desk : DeskFacts) (request : Request) → IsArenas records → c < 32
     → IsAtRest records c desk → IsInRange request → Comes records c (begin request desk)
 
--- the turn that a call wants can be made, and leads on, also where more goes back next and no memory is left to name it
+-- the turn that a call wants can be made, and leads on, whatever goes back next
 abbrev pub TurnsSit : Type 0
 TurnsSit = (records : List Record) (c : ℕ) (desk : DeskFacts) (call : CallFacts) (point : Point) (op : Op) (asked : Option AskFacts)
     → IsArenas records → c < 32 → call.stage.next ≡ Go point → Sits records c desk call.request call.stage.arena point → want point ≡ WantTurn op asked
     → let reply : Item = Replied (reply_in records call.stage.arena c (with_chunk_found (spaces_of records) call.stage.arena op)) in
     let records' : List Record = after_turn records call.stage.arena c op asked in
     CanTurn records c call.stage.arena op asked × Comes records' c (after (moment_of call desk) reply)
-    × (step point reply ≡ More → SeatSound records' c (seat_of c (starved_after (moment_of call desk) reply)))
 
 -- whatever answer of its kind an ask has that a call wants, it leads on
 abbrev pub AsksSit : Type 0

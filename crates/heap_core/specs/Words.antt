@@ -2,7 +2,7 @@
 pub use Rattle.std.specs.List.{range_with_len, list_any, slice_get, sum_by, position, flat_map}
 pub use Rattle.std.specs.Option.{option_map, option_and_then}
 pub use Rattle.arena_core.specs.Arenas.{entry_of, room_of, rooms_after, opens, all_rooms, given_by}
-pub use Rattle.call_plan.specs.Calls.{CallFacts, HasRoomToHold, moment_of, takes_memory}
+pub use Rattle.call_plan.specs.Calls.{CallFacts, HasRoomToHold, moment_at, moment_of, named_call, takes_memory}
 pub use Rattle.call_plan.specs.Desks.{flushes}
 pub use Rattle.call_plan.specs.Items.{lent}
 pub use Rattle.call_plan.specs.Knows.{Idle, Knows}
@@ -10,7 +10,7 @@ pub use Rattle.call_plan.specs.Laws.{IsInRange}
 pub use Rattle.call_plan.specs.Needs.{Goes, NeedIs}
 pub use Rattle.call_plan.specs.Reads.{aimed, taken_next, ended_by, heard_next}
 pub use Rattle.call_plan.specs.Rooms.{flying, needed_at}
-pub use Rattle.call_plan.specs.Runs.{after, starved_after, step_next, Moment, begin}
+pub use Rattle.call_plan.specs.Runs.{after, step_next, Moment, begin}
 pub use Rattle.call_plan.specs.Table.{WantTurn, WantAsk, step, want, Want, is_marked, op_at}
 pub use Rattle.call_plan.specs.Words.{Item, Replied, Told, Starved, Point, Turns, Asks, Tells, Next, Go, Over, More, Gone, Ends, Nowhere, Stage, Op, Reply, Space, AskFacts, Ask, Alloc, Dalloc, Answer, Placed, Refuses, Span, Mine, mine, AnswersTo, DeskFacts, Held, held_at, Setting, Unbind, SetBound, batch_of, cached_of, going, slots_at, cached_in}
 pub use Rattle.call_plan.specs.declared.needs.Request.{Request}

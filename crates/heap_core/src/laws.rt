@@ -32,7 +32,7 @@ pub fn starts_sit()
 {}
 
 /// The turn that a call wants can be made. After it the client holds in the arenas just the regions that it has, each once,
-/// and its call waits on or has ended, also where no memory was left to name what goes back next.
+/// and its call waits on or has ended, whatever goes back next.
 pub fn turns_sit()
     ensures { TurnsSit }
 {}

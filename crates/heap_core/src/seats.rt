@@ -4,15 +4,16 @@ ghost use Rattle.std.specs.Prelude.{◌≡◌, IfSome, IfNone, IfOk, IsOk, IsSom
 ghost use Rattle.heap_core.specs.Words.{option_and_then, DeskFacts, held_at, not_holding, moment_of, takes_memory, lent, Goes, ended_by, taken_next, after, begin};
 ghost use Rattle.heap_core.specs.Seats.{answer_of, first_seat, heard_by, open_call, seat_of};
 ghost use Rattle.heap_core.specs.Feeding.{FedTo, aimed_seat};
+ghost use Rattle.heap_core.specs.Stepping.{Needs, TakesAt};
 
-use call_plan::{Answered, Call, Item, Request};
+use call_plan::{Answered, Call, Item, Need, Request};
 use hook_api::Asked;
 use std::alloc::{AllocError as NoMemory, Global};
 use std::marker::Model;
 use thread_cache::{Desk, Held};
 
 /// A client: what it has, and its call while one is open. While that is so, its desk has room for a region that it may
-/// come to hold.
+/// come to hold. Contracts see the call with the regions named that go back next.
 #[derive(Drop)]
 pub struct Client {
     desk: Desk,
@@ -81,21 +82,29 @@ impl Client {
     }
 
     /// It holds no region at the address any more.
+    #[tactic(auto, using(crate::proofs::Wanting::named_lost))]
     pub fn lose(&mut self, addr: u64)
         ensures { self.new ≡ record self.old { desk = not_holding addr self.old.desk } }
     {
         self.desk.lose(addr);
     }
 
-    /// Its open call, if it has one.
-    pub fn call(&self) -> Option<&Call>
-        ensures none { IfNone result (self.now.call ≡ None) }
-        ensures some { IfSome result (λ call. self.now.call ≡ Some call.now) }
+    /// What its open call needs next, if it has one, with the regions named that go back. It is starved where there is no memory
+    /// to name them, and nothing has changed then either.
+    #[inline(always)]
+    pub fn need(&mut self, alloc: Global) -> Option<Need>
+        ensures same { self.new ≡ self.old }
+        ensures none { IfNone result (self.old.call ≡ None) }
+        ensures some { IfSome result (λ need. Needs self.old.call need) }
     {
-        self.call.as_ref()
+        let Some(call) = &mut self.call else {
+            return None;
+        };
+        Some(call.need(alloc, &self.desk))
     }
 
     /// The ask whose answer the turn carries that its open call needs, where it carries one.
+    #[tactic(auto, using(crate::proofs::Wanting::named_hears))]
     pub fn heard(&self) -> &Option<Asked>
         requires { is_some self.now.call ≡ true }
         ensures { result.now ≡ heard_by self.now.call }
@@ -107,6 +116,7 @@ impl Client {
     }
 
     /// The address of a region of another client, where its open call takes that over next to free it.
+    #[tactic(auto, using(crate::proofs::Wanting::named_takes))]
     pub fn takes(&self) -> Option<u64>
         ensures { result ≡ option_and_then (λ call. taken_next call.stage.next) self.now.call }
     {
@@ -114,7 +124,9 @@ impl Client {
     }
 
     /// Its open call takes that region over in the arena with this index.
+    #[tactic(auto, using(crate::proofs::Wanting::named_aims))]
     pub fn aim(&mut self, arena: u32)
+        requires { TakesAt self.old.call }
         ensures { self.new ≡ aimed_seat self.old arena }
     {
         if let Some(call) = &mut self.call {
@@ -139,8 +151,7 @@ impl Client {
         Call::start(alloc, &mut self.call, client, &mut self.desk, &request)
     }
 
-    /// Feeds an item to its open call. The answer is told, where the call has ended by it: that is `NoMemory` where there is
-    /// none to name the regions that go back next.
+    /// Feeds an item to its open call. The answer is told, where the call has ended by it. Takes no memory.
     pub fn feed(&mut self, alloc: Global, item: Item<'_>, ended: &mut Option<Answered>)
         requires { IsSomeAnd self.old.call (λ call. Goes (after (moment_of call self.old.desk) (lent item)).stage.next) }
         ensures { IfSome self.old.call (λ call. FedTo call self.old.desk (lent item.entry) ended.new self.new) }
@@ -148,7 +159,7 @@ impl Client {
         let Some(call) = &mut self.call else {
             unreachable!()
         };
-        let _named = call.next(alloc, &mut self.desk, item);
+        call.next(alloc, &mut self.desk, item);
         settle(&mut self.call, ended);
     }
 }

@@ -1,7 +1,7 @@
 //! A step of a client of a heap: one turn or one ask for its open call.
 
-ghost use Rattle.std.specs.Prelude.{◌≡◌, ◌≢◌, ◌+◌, ◌<◌, ◌≤◌, ℕ, None, Some, false, true, length, IfOk, IfSome, IsOk, IsSomeAnd, OnOk, OnErr};
-ghost use Rattle.heap_core.specs.Words.{Shelf, all_rooms, opens, held_at, lent, NeedIs};
+ghost use Rattle.std.specs.Prelude.{◌≡◌, ◌≢◌, ◌+◌, ◌<◌, ◌≤◌, ℕ, None, Some, false, true, length, IfNone, IfOk, IfSome, IsOk, IsSomeAnd, OnOk, OnErr};
+ghost use Rattle.heap_core.specs.Words.{Shelf, all_rooms, opens, held_at, lent};
 ghost use Rattle.space_model.specs.declared.entries.Op.TheVariants.{Publish};
 ghost use Rattle.heap_core.specs.Arenas.{reply_in, room_in, record_at, spaces_of};
 ghost use Rattle.heap_core.specs.Clients.{CanTurn, after_turn};
@@ -69,6 +69,19 @@ fn item_of<'a>(made: Result<(), NoMemory>, reply: &'a Reply) -> Item<'a>
 }
 
 impl Heap {
+    /// What the open call of a client needs next, if it has one, with the regions named that go back. It is starved where there is
+    /// no memory to name them. Nothing changes.
+    #[inline(always)]
+    fn need(&mut self, alloc: Global, client: u32) -> Option<Need>
+        requires { client < 32 }
+        ensures same { self.new ≡ self.old }
+        ensures none { IfNone result ((seat_at self.old.seats client).call ≡ None) }
+        ensures some { IfSome result (λ need. Needs (seat_at self.old.seats client).call need) }
+    {
+        self.arenas.are_apart();
+        self.clients[client as usize].need(alloc)
+    }
+
     /// The client that holds the region which a client's call takes over next to free it, with that region.
     fn holder_for(&self, client: u32) -> Option<(usize, Held)>
         requires { client < 32 }
@@ -117,7 +130,7 @@ impl Heap {
         self.clients[client as usize].aim(arena);
     }
 
-    /// The call of a client has ended, since the turn that it wants found no memory.
+    /// The call of a client has ended, since the turn that it wants found no memory, or none to name what it gives back.
     fn starve(&mut self, alloc: Global, client: u32, told: &mut Stepped)
         requires client { client < 32 }
         requires starves { StarvesAt (seat_at self.old.seats client).call }
@@ -208,8 +221,8 @@ impl Heap {
     }
 
     /// Carries the open call of a client on, if it has one, by one turn or one ask. Where the call has ended by it, its answer
-    /// is told: `NoMemory` where a turn found none, or where none was left to name the regions that go back next. A turn that
-    /// takes no memory is always made, and so is an ask.
+    /// is told: `NoMemory` where there was none for a turn, or to name the regions that it gives back, and then no turn was made. A
+    /// turn that takes no memory is always made, and so is an ask.
     pub fn step_client<H: ExtentHooks>(
         &mut self,
         alloc: Global,
@@ -237,15 +250,13 @@ impl Heap {
         ensures step { IsStep self.old shelf.old client (seat_at self.old.seats client).call told.new self.new shelf.new }
         ensures sure { IsSure self.old client (seat_at self.old.seats client).call self.new }
     {
-        let Some(call) = self.clients[client as usize].call() else {
-            told.go_on(Did::Idle);
-            return;
-        };
-        match call.need(alloc) {
-            Need::Ask { arena, ask } => self.ask(alloc, client, arena, ask, shelf, told),
-            Need::Turn(mut turn) => self.turn_for(alloc, &mut turn, told),
-            Need::Starved => self.starve(alloc, client, told),
-            Need::Done(_) => unreachable!(),
+        self.stands();
+        match self.need(alloc, client) {
+            None => told.go_on(Did::Idle),
+            Some(Need::Ask { arena, ask }) => self.ask(alloc, client, arena, ask, shelf, told),
+            Some(Need::Turn(mut turn)) => self.turn_for(alloc, &mut turn, told),
+            Some(Need::Starved) => self.starve(alloc, client, told),
+            Some(Need::Done(_)) => unreachable!(),
         }
     }
 }

@@ -1,6 +1,6 @@
 //! What goes back of the regions that a client has: one batch for each arena.
 
-ghost use Rattle.std.specs.Prelude.{◌≡◌, ◌<◌, ◌≤◌, [], ◌∷◌, false, fold, count_by, length, Some, IfOk, IfSome, IsOk, OnOk};
+ghost use Rattle.std.specs.Prelude.{◌≡◌, ◌<◌, ◌≤◌, [], ◌∷◌, false, fold, count_by, length, take, IfOk, IfSome, IsOk, OnOk};
 ghost use Rattle.std.specs.List.{flat_map};
 ghost use Rattle.std.specs.Option.{option_map};
 ghost use Rattle.thread_cache.specs.Caches.{cached_in};
@@ -72,30 +72,24 @@ fn listed(alloc: Global, set: &BTreeSet<u64>) -> Result<Addrs, NoMemory>
     Ok(addrs)
 }
 
-/// The regions of the least arena among some.
-fn batch_of(alloc: Global, regions: &[Held]) -> Result<Option<Batch>, NoMemory>
-    ensures batch { IfOk result (λ batch. option_map batch_facts batch ≡ batch_of regions.now) }
-    ensures nothing { regions.now ≡ [] → IsOk result }
+/// The addresses of those regions that are of an arena.
+fn addrs_in(alloc: Global, regions: &[Held], arena: u32) -> Result<Addrs, NoMemory>
+    ensures { IfOk result (λ addrs. addrs.items ≡ addrs_in arena regions.now) }
 {
-    let Some(arena) = least_of(None, regions) else {
-        return Ok(None);
-    };
     let mut set = BTreeSet::new(alloc);
     add_of(&mut set, regions, arena)?;
-    let addrs = listed(alloc, &set)?;
-    Ok(Some(Batch { arena, addrs }))
+    listed(alloc, &set)
 }
 
-/// One region alone. Takes no memory.
-fn batch_of_one(alloc: Global, region: Held) -> Batch
-    ensures { Some (batch_facts result) ≡ batch_of (region ∷ []) }
+/// The address of one region alone, where it is of an arena. Takes no memory.
+fn addr_in(alloc: Global, region: Held, arena: u32) -> Addrs
+    ensures { result.items ≡ addrs_in arena (region ∷ []) }
 {
     let mut addrs = Addrs::new(alloc);
-    addrs.push(region.addr);
-    Batch {
-        arena: region.arena,
-        addrs,
+    if region.arena == arena {
+        addrs.push(region.addr);
     }
+    addrs
 }
 
 impl Desk {
@@ -131,16 +125,50 @@ impl Desk {
         listed(alloc, &set)
     }
 
-    /// All cached regions of the least arena of which there are some.
-    fn batch_of_cached(&self, alloc: Global) -> Result<Option<Batch>, NoMemory>
-        ensures batch { IfOk result (λ batch. option_map batch_facts batch ≡ batch_of (flat_map (λ list. list) self.now.facts.cached)) }
-        ensures nothing { flat_map (λ list. list) self.now.facts.cached ≡ [] → IsOk result }
+    /// The regions of a class that go back where it was full: those that were cached first.
+    fn older(&self, class: u8) -> &[Held]
+        requires { class < 41 }
+        ensures { result.now ≡ take (older_count class self.now.facts) (cached_in self.now.facts.cached class) }
     {
-        let Some(arena) = self.least_cached() else {
-            return Ok(None);
-        };
-        let addrs = self.cached_in(alloc, arena)?;
-        Ok(Some(Batch { arena, addrs }))
+        let count = self.older_count(class) as usize;
+        &self.cache.of_class(class)[..count]
+    }
+
+    /// The arena whose regions go back next: the least one of those that go for the region that is in hand then, if one is, or
+    /// else of all cached ones, if these are to go. Takes no memory.
+    pub fn next_arena(&self, hand: Option<Held>, all: bool) -> Option<u32>
+        ensures { result ≡ least_arena (going_with hand all self.now.facts) }
+    {
+        match hand {
+            Some(region) if self.is_cacheable(region.class) => {
+                least_of(None, self.older(region.class))
+            }
+            Some(region) => Some(region.arena),
+            None if all => self.least_cached(),
+            None => None,
+        }
+    }
+
+    /// The addresses of the regions of an arena that go back, for the region in hand or of all cached ones, rising, each once.
+    /// Takes no memory for a region that isn't to be cached.
+    pub fn addrs_going(
+        &self,
+        alloc: Global,
+        hand: Option<Held>,
+        all: bool,
+        arena: u32,
+    ) -> Result<Addrs, NoMemory>
+        ensures addrs { IfOk result (λ addrs. addrs.items ≡ addrs_in arena (going_with hand all self.now.facts)) }
+        ensures one { IfSome hand (λ region. is_cacheable region.class self.now.facts ≡ false → IsOk result) }
+    {
+        match hand {
+            Some(region) if self.is_cacheable(region.class) => {
+                addrs_in(alloc, self.older(region.class), arena)
+            }
+            Some(region) => Ok(addr_in(alloc, region, arena)),
+            None if all => self.cached_in(alloc, arena),
+            None => Ok(Addrs::new(alloc)),
+        }
     }
 
     /// The next batch that goes back: for the region that is in hand then, if one is, or else of all cached ones, if these
@@ -155,15 +183,11 @@ impl Desk {
         ensures nothing { going_with hand all self.now.facts ≡ [] → IsOk result }
         ensures one { IfSome hand (λ region. is_cacheable region.class self.now.facts ≡ false → IsOk result) }
     {
-        match hand {
-            Some(region) if self.is_cacheable(region.class) => {
-                let count = self.older_count(region.class) as usize;
-                batch_of(alloc, &self.cache.of_class(region.class)[..count])
-            }
-            Some(region) => Ok(Some(batch_of_one(alloc, region))),
-            None if all => self.batch_of_cached(alloc),
-            None => Ok(None),
-        }
+        let Some(arena) = self.next_arena(hand, all) else {
+            return Ok(None);
+        };
+        let addrs = self.addrs_going(alloc, hand, all, arena)?;
+        Ok(Some(Batch { arena, addrs }))
     }
 
     /// The batch of an arena went back: its regions are cached no more, or the one in hand is there no more.

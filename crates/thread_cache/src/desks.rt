@@ -15,7 +15,7 @@ use std::marker::Model;
 /// and the one that its call has in hand, which is neither held nor cached while it is given away. Contracts see all that
 /// as `facts`, and for how many more held regions there is room as `room`.
 ///
-/// A held region is found by its address. Only `new`, `reserve` and `batch` take memory.
+/// A held region is found by its address. Only `new`, `reserve`, `addrs_going` and `batch` take memory.
 #[derive(Drop)]
 pub struct Desk {
     arena: u32,

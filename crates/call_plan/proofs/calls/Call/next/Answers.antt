@@ -1,22 +1,30 @@
-use Rattle.call_plan.proofs.Words.{subst, sym, CallFacts, HasRoomToHold, moment_of, Goes, IsPointOrEnd, after, lent, settle, step_next}
-use Rattle.call_plan.proofs.Credits.{led_or_ended, settle_place}
+use Rattle.call_plan.proofs.Words.{◌≡◌, List, ap, subst, sym, ◌∙◌, Item, CallFacts, HasRoomToHold, Moment, moment_at, Goes, after, lent, run, step_next}
+use Rattle.call_plan.proofs.Naming.{fed_moment, fed_place, named_room}
 use Rattle.call_plan.proofs.Places.{fed_room}
 use Rattle.call_plan.proofs.calls.Call.next.Goals as goal
 
 pub invariant_of-self : goal.invariant_of-self
 invariant_of-self c =
     let was = c.self.inside.stage in
-    let request = c.self.inside.request in
     let item = lent c.args.item in
-    let could = subst (λ (f : CallFacts). Goes (after (moment_of f c.args.desk.now.facts) item).stage.next) (sym c.self.view_is) c.requires.goes in
-    let goes = subst (λ d. Goes (settle request d was.arena (step_next was.next item)).next) (sym c.tell.ensures.facts) could in
-    let place = settle_place request c.tell.new.desk.facts was.arena (step_next was.next item) goes in
-    (led_or_ended IsPointOrEnd c.feed-fed.result _ _ _ c.feed-fed.new.self c.feed-fed.ensures.stage c.feed-fed.ensures.err place tt, c.feed-fed.ensures.sized)
+    let goes = subst (λ (f : CallFacts). Goes (after (moment_at f c.args.desk.now.facts) item).stage.next) (sym c.self.view_is) c.requires.goes in
+    (fed_place c.self.inside.request c.args.desk.now.facts c.tell.new.desk.facts was c.feed.new.self item c.tell.ensures.facts c.feed.ensures.stage goes, c.feed.ensures.sized)
 
 pub close-requires : goal.close-requires
 close-requires c =
     let was = c.self.inside.stage in
     let had = c.args.desk.now in
+    let told = c.tell.new.desk in
     let room = subst (λ (f : CallFacts). HasRoomToHold had.facts.hand had.room f.stage.next) (sym c.self.view_is) c.requires.room in
-    fed_room c.self.inside.request had.facts c.tell.new.desk.facts was.arena was.next (lent c.args.item) had.room c.tell.new.desk.room c.feed-fed.result c.feed-fed.new.self c.tell.ensures.facts
-    c.tell.ensures.room room c.feed-fed.ensures.stage c.feed-fed.ensures.err c.feed-fed.ensures.more
+    named_room c.self.inside.request told.facts c.feed.new.self _ told.facts.hand told.room c.feed.ensures.stage
+    (fed_room c.self.inside.request had.facts told.facts was.arena was.next (lent c.args.item) had.room told.room c.tell.ensures.facts c.tell.ensures.room room)
+
+pub returns-clause-moment : goal.returns-clause-moment
+returns-clause-moment c =
+    let was = c.self.inside.stage in
+    let had = c.args.desk.now.facts in
+    let so = fed_moment c.self.inside.request had c.tell.new.desk.facts c.close.new.desk.facts was c.feed.new.self (lent c.args.item) c.tell.ensures.facts c.feed.ensures.stage c.close.ensures.facts in
+    so ∙ ap (λ (f : CallFacts). after (moment_at f had) (lent c.args.item)) c.self.view_is
+
+pub returns-clause-reads : goal.returns-clause-reads
+returns-clause-reads c = λ items. ap (λ (m : Moment). run m items) (sym (returns-clause-moment c))

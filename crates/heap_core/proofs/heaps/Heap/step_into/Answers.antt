@@ -1,8 +1,24 @@
-use Rattle.heap_core.proofs.Changes.{seat_is}
-use Rattle.heap_core.proofs.Wanting.{turn_told}
+use Rattle.heap_core.proofs.Words.{◌≡◌, subst, HeapFacts, IsStep, IsSure, Needs, seat_at}
+use Rattle.heap_core.proofs.Wanting.{turn_client}
 use Rattle.heap_core.proofs.heaps.Heap.step_into.Goals as goal
+use Rattle.heap_core.proofs.heaps.Heap.step_into.Goals.{After-turn_for}
+use Rattle.heap_core.proofs.heaps.Heap.step_into.Given.{Over}
 
-pub turn_for-requires-clause-needs : goal.turn_for-requires-clause-needs
-turn_for-requires-clause-needs g c =
-    turn_told (record { records = c.self.inside.arenas; seats = c.self.inside.clients.items; heard = c.self.inside.log.asks }) _ c.args.client c.in-Turn.turn c.index.result.now c.in-Some.call.now c.need.result c.self.view_is
-    (c.self.invariant.sound c.args.client c.requires) (seat_is _ c.args.client _ c.self.invariant.number c.requires c.index.ensures) c.in-Some.ensures.some c.need.ensures c.in-Turn.is
+-- the turn is of the client
+own : (g : Over) (c : After-turn_for g) → c.in-Some-Turn.turn.client ≡ c.args.client
+own g c =
+    let seat = seat_at c.args.self.now.seats c.args.client in
+    turn_client c.args.self.now.records c.args.client seat c.in-Some-Turn.turn (c.stands.ensures.seats c.args.client c.requires) (subst (Needs seat.call) c.in-Some-Turn.field-0-is c.in-Some-Turn.ensures.some)
+
+pub returns-in-Some-Turn-clause-step : goal.returns-in-Some-Turn-clause-step
+returns-in-Some-Turn-clause-step g c =
+    let at = (goal.at.returns-in-Some-Turn-clause-step g c).After-turn_for in
+    let shelf = c.args.shelf.now in
+    subst (λ (h : HeapFacts). IsStep h shelf c.args.client (seat_at h.seats c.args.client).call c.turn_for.new.told c.turn_for.new.self shelf) c.need.ensures.same
+    (subst (λ i. IsStep c.need.new.self shelf i (seat_at c.need.new.self.seats i).call c.turn_for.new.told c.turn_for.new.self shelf) (own g at) (c.turn_for.ensures.step shelf))
+
+pub returns-in-Some-Turn-clause-sure : goal.returns-in-Some-Turn-clause-sure
+returns-in-Some-Turn-clause-sure g c =
+    let at = (goal.at.returns-in-Some-Turn-clause-sure g c).After-turn_for in
+    subst (λ (h : HeapFacts). IsSure h c.args.client (seat_at h.seats c.args.client).call c.turn_for.new.self) c.need.ensures.same
+    (subst (λ i. IsSure c.need.new.self i (seat_at c.need.new.self.seats i).call c.turn_for.new.self) (own g at) c.turn_for.ensures.sure)
