@@ -9,4 +9,4 @@ mod whole;
 pub use edges::{ReadEdge, WriteEdge};
 pub use memory::{MemSink, MemSource};
 pub use traits::{Failed, Sink, Source};
-pub use whole::write_all;
+pub use whole::{write_all, write_whole};

@@ -1,0 +1,5 @@
+pub mod Totals
+pub mod Owners
+pub mod Judging
+pub mod Accepting
+pub mod Told

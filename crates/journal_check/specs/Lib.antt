@@ -1,0 +1,5 @@
+pub mod Said
+pub mod Logs
+pub mod Apart
+pub mod Verdicts
+pub mod Accepted
