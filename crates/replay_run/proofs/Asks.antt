@@ -1,5 +1,5 @@
 -- The asks of a play are those that its heap has heard.
-use Rattle.replay_run.proofs.Words.{arith, ◌≡◌, ℕ, Bool, List, [], ◌∷◌, ◌++◌, Option, None, Some, refl, sym, ◌∙◌, ap, append-nil, append_assoc, Op, Held, AskFacts, Answered, Request, CallFacts, HeapFacts, holder_for, published_for, region_for, started, turned_for, answer_of, begun, Line, Verb, WorldEvent, Read, Began, Turned, Told, Starved, Unnamed, after_event, ask_in, asks_among, world_after, Reached, Now, Outset, Awaits, World, begins, begun_as, line_read, opening_world, request_of}
+use Rattle.replay_run.proofs.Words.{arith, ◌≡◌, ℕ, Bool, List, [], ◌∷◌, ◌++◌, Option, None, Some, refl, sym, ◌∙◌, ap, append-nil, append_assoc, Op, Held, AskFacts, Answered, Request, CallFacts, HeapFacts, holder_for, published_for, region_for, started, turned_for, answer_of, begun, Line, Verb, WorldEvent, Read, Began, Turned, Told, Starved, after_event, ask_in, asks_among, world_after, Reached, Now, Outset, Awaits, World, begins, begun_as, line_read, opening_world, request_of}
 
 -- no line asks anything
 line_hears : (w : World) (line : Line) → (line_read w line).heap.heard ≡ w.heap.heard
@@ -30,7 +30,6 @@ event_hears w (Began c verb whole) = begins_hears w c verb whole (request_of w.h
 event_hears w (Turned c call op asked) = turned_hears w.heap c call op asked (holder_for w.heap call) ∙ sym (append-nil w.heap.heard)
 event_hears w (Told c call asked) = refl
 event_hears w (Starved c call) = sym (append-nil w.heap.heard)
-event_hears w (Unnamed c call op asked) = sym (append-nil w.heap.heard)
 
 -- the asks of a play are heard after it
 play_hears : (w : World) (events : List WorldEvent) → (world_after w events).heap.heard ≡ w.heap.heard ++ asks_among events

@@ -1,6 +1,6 @@
 -- Replays at their beginning and at their end.
-use Rattle.replay_run.proofs.Words.{arith, length, map, true, IfErr, IfOk, replicate, ◌≡◌, ◌≤◌, ◌⊎◌, inl, inr, ℕ, Bool, List, [], ◌++◌, eqb, false, Option, None, Result, Ok, Err, refl, sym, subst, IsErrAnd, Appends-nil, Consumes-nil, All-nil, Consumes, Keeps, Rose, AskFacts, Shelf, Journal, journal_of, opening_heap, Stop, ReadFault, WriteFault, TakesSome, IsSound, lines_in, world_after, Ending, IsEnding, Open, Prints, ReplayOf, RunOf, ending_text, HasRead, Here, Now, Outset, Reading, HasStopCause, status_for, status_in, Nothing, World, no_answers, opening_world}
-use Rattle.replay_run.proofs.Endings.{kept_after, kept_begun}
+use Rattle.replay_run.proofs.Words.{arith, length, map, true, IfErr, IfOk, OnOk, replicate, ◌≡◌, ◌≤◌, ◌⊎◌, inl, inr, ℕ, Bool, List, [], ◌++◌, Option, None, Result, Ok, Err, refl, sym, ◌∙◌, subst, IsErrAnd, Appends-nil, Consumes-nil, Consumes, Keeps, Rose, AskFacts, Shelf, Journal, journal_of, opening_heap, Stop, ReadFault, WriteFault, IsSound, lines_in, world_after, Ending, IsEnding, Open, Prints, ReplayOf, RunOf, ending_text, HasRead, Here, Now, Outset, Reading, HasStopCause, IsWholeStatus, status_for, status_in, Nothing, World, no_answers, opening_world}
+use Rattle.replay_run.proofs.Endings.{kept_after, kept_begun, stop_bounds}
 use Rattle.replay_run.proofs.Stops.{prints_begun}
 
 -- ---- the beginning
@@ -40,10 +40,6 @@ pub replay_passed : {journals : List Journal} {heard : List AskFacts} {shelf_bef
 replay_passed (Ok status) stop is replay = absurd is
 replay_passed (Err passed) stop is replay = rw is replay
 
--- no bytes were taken where the end was looked for
-pub takes_none : (failed : Type 0) (pending : List ℕ) (before left : Option (List ℕ)) → pending ≡ [] → Consumes before left [] → TakesSome failed pending before left
-takes_none failed pending before left none takes = ([], takes, λ fault. rw none (All-nil (λ (b : ℕ). eqb b 10 ≡ false)))
-
 -- what was printed, where the sink keeps what it holds
 prints_kept : {status : ℕ} {w : World} {count : ℕ} {rest : List ℕ} {ending : Ending} {before held after : Option (List ℕ)} → Prints status w count rest ending before held → Keeps held after →
     Prints status w count rest ending before after
@@ -54,6 +50,7 @@ prints_kept {status} {w} {count} {rest} {ending} {before} {held} {after} prints 
       refused = λ is. let p = prints.refused is in (p.0, p.1, p.2, kept_after before held after text p.3 kept);
       limited = λ is. let p = prints.limited is in (p.0, p.1, p.2, kept_after before held after text p.3 kept);
       cut_off = λ is. let p = prints.cut_off is in (p.0, p.1, p.2, kept_after before held after w.text p.3 kept);
+      within = prints.within;
     }
 
 -- where the last flush fails, what was printed is the beginning of a report at least
@@ -105,10 +102,6 @@ replay_none shelf met left held sound = record {
 
 -- ---- statuses and causes
 
--- the statuses with which a replay went on to its end
-abbrev pub IsWholeStatus : ℕ → Type 0
-IsWholeStatus status = (status ≡ 0) ⊎ (status ≡ 3) ⊎ (status ≡ 7)
-
 pub status_closed : (r : Result ℕ Stop) → IfOk r (λ told. told ≡ 0) → IfOk r IsWholeStatus
 status_closed (Ok status) is = inl is
 status_closed (Err stop) is = tt
@@ -139,6 +132,26 @@ write_faulted r status s s' low mid high below above (inr rose) is cause five = 
 write_faulted (Ok whole) status s s' low mid high below above (inl same) is cause five = absurd (omega (arith, same, is, five))
 write_faulted (Err WriteFault) status s s' low mid high below above (inl same) is cause five = rose_wider low low mid high (omega arith) above cause
 write_faulted (Err stop) status s s' low mid high below above (inl same) is cause five = absurd (grind (arith, same, five))
+
+-- what is so of a run that went on to its end is so where the status says that it did
+pub whole_passed : {P : Type 0} (r : Result ℕ Stop) (status : ℕ) → status ≡ status_in r → OnOk r P → IsWholeStatus status → P
+whole_passed (Ok told) status is ok whole = ok
+whole_passed (Err stop) status is ok whole = let bounds = stop_bounds stop in absurd (omega (arith, bounds.0, bounds.1, is, whole))
+
+-- also behind the last flush
+pub whole_left : {P T : Type 0} (r : Result ℕ Stop) (status : ℕ) → (status ≡ status_in r) ⊎ ((status ≡ 5) × T) → OnOk r P → IsWholeStatus status → P
+whole_left r status (inl same) ok whole = whole_passed r status same ok whole
+whole_left r status (inr five) ok whole = absurd (omega (arith, five.0, whole))
+
+-- what is so is so of a good result
+pub on_ok : {T P : Type 0} (r : Result T Stop) → P → OnOk r P
+on_ok (Ok done) so = so
+on_ok (Err stop) so = tt
+
+-- a count that stayed so far stays where the last text raised it not
+pub stays_on : {T : Type 0} (r : Result T Stop) (low old new : ℕ) → old ≡ low → OnOk r (new ≡ old) → OnOk r (new ≡ low)
+stays_on (Ok done) low old new same ok = ok ∙ same
+stays_on (Err stop) low old new same ok = tt
 
 -- at status 0 the source has met its end
 pub replay_ended : {status : ℕ} {journals : List Journal} {heard : List AskFacts} {shelf_before shelf_after : Shelf} {met : Bool} {left_before left before after : Option (List ℕ)} →

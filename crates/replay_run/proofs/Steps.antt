@@ -1,5 +1,5 @@
 -- A step of a client's open call is an event.
-use Rattle.replay_run.proofs.Words.{◌≡◌, ◌≢◌, inl, inr, ℕ, Bool, true, List, [], ◌++◌, Option, Some, is_none, refl, sym, subst, ◌∙◌, ap, append-nil, Appends-trans, Appends, AppendsPrefix, Chain, Shelf, CallFacts, Want, WantAsk, WantTurn, want, Did, Stepped, ToldItem, HeapFacts, IsStepFor, IsStep, answered_by, holder_for, moment_after, answer_of, seat_at, ask_line, turn_line, Line, Verb, WorldEvent, IsNext, IsWanted, Ask, Starved, Told, Turned, Unnamed, after_event, client_awaited, line_in, shelf_event, Stop, IsSound, Reached, Halted, Here, Now, Outset, did_line, is_one_step, shown_line, world_at, status_for, Awaits, OneStep, World, awaits_after, ended_line, has_open_call, names_closed, step_text, stepped, tally_closed, verb_at, verbs_closed, AskFacts, last_asked, last_pushed}
+use Rattle.replay_run.proofs.Words.{◌≡◌, ◌≢◌, inl, inr, ℕ, Bool, true, List, [], ◌++◌, Option, Some, is_none, refl, sym, subst, ◌∙◌, ap, append-nil, Appends-trans, Appends, AppendsPrefix, Chain, Shelf, CallFacts, Want, WantAsk, WantTurn, want, Did, Stepped, ToldItem, HeapFacts, IsStepFor, IsStep, answered_by, holder_for, moment_after, answer_of, seat_at, ask_line, turn_line, Line, Verb, WorldEvent, IsNext, IsWanted, Ask, Starved, Told, Turned, after_event, client_awaited, line_in, shelf_event, Stop, IsSound, Reached, Halted, Here, Now, Outset, did_line, is_one_step, shown_line, world_at, status_for, Awaits, OneStep, World, awaits_after, ended_line, has_open_call, names_closed, step_text, stepped, tally_closed, verb_at, verbs_closed, AskFacts, last_asked, last_pushed}
 use Rattle.call_plan.specs.declared.needs.Answered.TheVariants.{NoMemory}
 use Rattle.replay_run.proofs.Came.{Leads, came_next}
 use Rattle.replay_run.proofs.Endings.{all_of, behind, longer}
@@ -31,22 +31,12 @@ step_wanted w c shelf call told heap shelf' (WantTurn op asked) wants (did, same
   text = refl;
   after = λ memory. rw (did, made.0, made.1) refl;
 }
-step_wanted w c shelf call told heap shelf' (WantTurn op asked) wants (did, same, inr (inl starved, ended)) = record {
+step_wanted w c shelf call told heap shelf' (WantTurn op asked) wants (did, same, inr (starved, ended)) = record {
   event = Starved c call;
   next = (op, asked, wants, starved.0);
   lines = refl;
   chain = same;
   leads = sym starved.1;
-  more = [];
-  text = sym (append-nil w.text);
-  after = λ memory. absurd (memory ended);
-}
-step_wanted w c shelf call told heap shelf' (WantTurn op asked) wants (did, same, inr (inr unnamed, ended)) = record {
-  event = Unnamed c call op asked;
-  next = (wants, unnamed.0, unnamed.1);
-  lines = refl;
-  chain = same;
-  leads = sym unnamed.2;
   more = [];
   text = sym (append-nil w.text);
   after = λ memory. absurd (memory ended);

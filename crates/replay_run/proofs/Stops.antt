@@ -1,5 +1,5 @@
 -- Runs that stop, and replays that end.
-use Rattle.replay_run.proofs.Words.{arith, length, map, ◌≡◌, ◌≤◌, ◌≢◌, ◌⊎◌, ℕ, Bool, List, [], ◌++◌, Option, Result, Ok, Err, IfOk, IfErr, OnOk, OnErr, refl, sym, ◌∙◌, ap, subst, append-nil, Appends-trans, IsErrAnd, Appends, AppendsPrefix, AskFacts, Shelf, Journal, journal_of, Cause, Line, HasNoNewline, Stop, ReadFault, status_of, ReadsTo, TakesSome, WorldEvent, lines_in, world_after, Bad, Ending, IsEnding, Open, Prints, ReplayOf, RunOf, Whole, ending_text, Reached, Between, EndsHere, GoesOn, Halted, StopOf, HasRead, Now, Outset, Reading, reading, world_at, HasStopCause, status_for, status_in, Awaits, Nothing, World, opening_world}
+use Rattle.replay_run.proofs.Words.{arith, length, map, ◌≡◌, ◌<◌, ◌≤◌, ◌≢◌, ◌⊎◌, ℕ, Bool, false, List, [], ◌++◌, eqb, Option, Result, Ok, Err, IfOk, IfErr, OnOk, OnErr, refl, sym, ◌∙◌, ap, subst, append-nil, Appends-trans, All-nil, IsErrAnd, Appends, AppendsPrefix, Consumes, AskFacts, Shelf, Journal, journal_of, Cause, Line, Stop, ReadFault, line_limit, status_of, IsUnended, ReadsTo, TakesSome, WorldEvent, lines_in, world_after, Bad, Ending, IsEnding, Open, Prints, ReplayOf, RunOf, Whole, ending_text, Reached, Between, EndsHere, GoesOn, Halted, StopOf, HasRead, Now, Outset, Reading, reading, world_at, HasStopCause, status_for, status_in, Awaits, Nothing, World, opening_world}
 use Rattle.replay_run.proofs.Asks.{came_asks}
 use Rattle.replay_run.proofs.Came.{between_read, came_held}
 use Rattle.replay_run.proofs.Endings.{all_of, behind, longer, read_fault, sink_fault, stop_bounds}
@@ -70,6 +70,7 @@ prints_begun low high begun = record {
   refused = λ is. absurd (omega (arith, is, low));
   limited = λ is. absurd (omega (arith, is, high));
   cut_off = λ is. absurd (omega (arith, is, low));
+  within = λ is. absurd (omega (arith, is, low));
 }
 
 -- a replay ends where its run stopped
@@ -81,7 +82,7 @@ stop_ends {before = before} {after = after} stop halted read =
     (prints_begun (omega (arith, bounds.0, halted.why)) bounds.1 (longer before after (world_after opening_world halted.events).text [] halted.begun))
 
 -- all so far was printed where something stopped the replay between two lines
-pub stops_between : {from : Outset} {left : Option (List ℕ)} {count : ℕ} {at : Reading} {now : Now} → Between from left count at now → (stop : Stop) → (status_for stop ≡ 4 → HasNoNewline at.pending) →
+pub stops_between : {from : Outset} {left : Option (List ℕ)} {count : ℕ} {at : Reading} {now : Now} → Between from left count at now → (stop : Stop) → (status_for stop ≡ 4 → IsUnended at.pending × (count ≡ line_limit → at.pending ≡ [])) →
     EndsHere from left (status_for stop) at now
 stops_between {from} {left} {count} {at} {now} between stop cut =
     let so = between.here in
@@ -91,14 +92,23 @@ stops_between {from} {left} {count} {at} {now} between stop cut =
       whole = λ is. absurd (omega (arith, is, bounds.0));
       refused = λ is. absurd (omega (arith, is, bounds.0));
       limited = λ is. absurd (omega (arith, is, bounds.1));
-      cut_off = λ is. (refl, refl, cut is, so.prints);
+      cut_off = λ is. (refl, refl, (cut is).0.0, so.prints);
+      within = λ is. ((cut is).0.1, (cut is).1);
     })
 
 -- a read failed, or memory for what was read was wanting
-pub stops_reading : {from : Outset} {left : Option (List ℕ)} {count : ℕ} {at : Reading} {now : Now} → Between from left count at now → (stop : Stop) (left' : Option (List ℕ)) (met : Bool) →
+pub stops_reading : {from : Outset} {left : Option (List ℕ)} {count : ℕ} {at : Reading} {now : Now} → Between from left count at now → count < line_limit → (stop : Stop) (left' : Option (List ℕ)) (met : Bool) →
     TakesSome (stop ≡ ReadFault) at.pending at.left left' → EndsHere from left (status_for stop) (reading at.pending left' met) now
-stops_reading {from} {left} {count} {at} {now} between stop left' met takes =
-    stops_between (between_read between (at.pending ++ takes.0) left' met (takes.0, takes.1, refl)) stop (λ four. takes.2 (read_fault stop four))
+stops_reading {from} {left} {count} {at} {now} between below stop left' met takes =
+    stops_between (between_read between (at.pending ++ takes.0) left' met (takes.0, takes.1, refl)) stop
+    (λ four. (takes.2 (read_fault stop four), λ full. absurd (omega (arith, below, full))))
+
+-- a read failed by which more was looked for where nothing is pending
+pub stops_looking : {from : Outset} {left : Option (List ℕ)} {count : ℕ} {at : Reading} {now : Now} → Between from left count at now → (stop : Stop) (left' : Option (List ℕ)) (met : Bool) →
+    at.pending ≡ [] → Consumes at.left left' [] → EndsHere from left (status_for stop) (reading [] left' met) now
+stops_looking {from} {left} {count} {at} {now} between stop left' met none takes =
+    stops_between (between_read between [] left' met ([], takes, rw none refl)) stop
+    (λ four. ((All-nil (λ (b : ℕ). eqb b 10 ≡ false), omega arith), λ full. refl))
 
 -- ---- the last text
 
@@ -121,6 +131,7 @@ prints_last status w count rest Whole before after is all = record {
   refused = λ three. absurd (omega (arith, is, three));
   limited = λ seven. absurd (omega (arith, is, seven));
   cut_off = λ four. absurd (omega (arith, is, four));
+  within = λ four. absurd (omega (arith, is, four));
 }
 prints_last status w count rest (Bad cause) before after is all = let which = status_cause cause in record {
   beginning = all_of before after (w.text ++ ending_text w count (Bad cause)) all;
@@ -128,6 +139,7 @@ prints_last status w count rest (Bad cause) before after is all = let which = st
   refused = λ three. (cause, refl, sym is ∙ three, all);
   limited = λ seven. (cause, refl, sym is ∙ seven, all);
   cut_off = λ four. absurd (omega (arith, which, is, four));
+  within = λ four. absurd (omega (arith, which, is, four));
 }
 prints_last status w count rest Open before after is all = absurd is
 

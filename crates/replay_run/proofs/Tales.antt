@@ -1,5 +1,5 @@
 -- What is kept by each step of a call is so of each open call of a play by its tale, and of each answer.
-use Rattle.replay_run.proofs.Words.{◌≡◌, ◌≢◌, ℕ, ◌<◌, ◌≤◌, ◌==◌, Bool, true, false, List, [], ◌∷◌, ◌++◌, Record, Option, None, Some, IfSome, is_none, length, refl, sym, ◌∙◌, ap, subst, arith, nat_lt, option_map, ltb-true, nat_tests, get_or-replicate, get_or-set_other, length-replicate, set-get_or, Op, Space, Sound, step_of, AskFacts, Held, DeskFacts, not_holding, Answered, NotHeld, Item, Replied, ToldItem, Request, Owning, Point, Turns, Next, Go, Ends, CallFacts, moment_of, desk_fed, Moves, aimed, ended_by, published_next, Moment, after, begin_stage, settle, step_next, Want, WantAsk, WantTurn, step, record_at, spaces_of, with_chunk_found, HeapFacts, answered_by, holder_for, moment_after, parted, published_for, region_for, replied, started, turned_for, Seat, answer_of, asked_for, begun, first_seat, open_call, seat_at, seat_of, found_for, settled_is, sound_at, past, ask_line, turn_line, Line, Verb, AllEvents, NowhereCause, Tale, answer_begun, answer_in, no_tales, tale_at, tale_begun, tale_fed, tale_in, tale_turned, tale_until, tales_after, tales_begun, line_cause, verb_cause, AllWorlds, WorldEvent, HasSoundHeap, IsAskOf, IsNext, IsPlay, IsSound, IsWanted, client_awaited, Read, Began, Turned, Told, Starved, Unnamed, after_event, Awaits, Memory, TheEndBefore, TheStart, World, awaits_after, awaits_call, begins, begun_as, line_read, opening_world, request_of, stepped, target_of, Came}
+use Rattle.replay_run.proofs.Words.{◌≡◌, ◌≢◌, ℕ, ◌<◌, ◌≤◌, ◌==◌, Bool, true, false, List, [], ◌∷◌, ◌++◌, Record, Option, None, Some, IfSome, is_none, length, refl, sym, ◌∙◌, ap, subst, arith, nat_lt, option_map, ltb-true, nat_tests, get_or-replicate, get_or-set_other, length-replicate, set-get_or, Op, Space, Sound, step_of, AskFacts, Held, DeskFacts, not_holding, Answered, NotHeld, Item, Replied, ToldItem, Request, Owning, Point, Turns, Next, Go, Ends, CallFacts, moment_of, desk_fed, Moves, aimed, ended_by, published_next, Moment, after, begin_stage, settle, step_next, Want, WantAsk, WantTurn, step, record_at, spaces_of, with_chunk_found, HeapFacts, answered_by, holder_for, moment_after, parted, published_for, region_for, replied, started, turned_for, Seat, answer_of, asked_for, begun, first_seat, open_call, seat_at, seat_of, found_for, settled_is, sound_at, past, ask_line, turn_line, Line, Verb, AllEvents, NowhereCause, Tale, answer_begun, answer_in, no_tales, tale_at, tale_begun, tale_fed, tale_in, tale_turned, tale_until, tales_after, tales_begun, line_cause, verb_cause, AllWorlds, WorldEvent, HasSoundHeap, IsAskOf, IsNext, IsPlay, IsSound, IsWanted, client_awaited, Read, Began, Turned, Told, Starved, after_event, Awaits, Memory, TheEndBefore, TheStart, World, awaits_after, awaits_call, begins, begun_as, line_read, opening_world, request_of, stepped, target_of, Came}
 use Rattle.replay_run.proofs.NewHeaps.{sits_there}
 use Rattle.std.proofs.Common.{slice_set}
 use Rattle.std.proofs.lemmas.List.{get_or-set_same}
@@ -270,7 +270,6 @@ module _ (P : ℕ → Tale → Next → Type 0) where
       (answer_came w c call asked here (seat_there w.heap.seats c call so.clients next.0.open_call) next.0 next.1) in
       ((goes.0, record { next = next; sound = here; clients = so.clients }), plays keeps _ _ events goes.1 more sound)
   plays keeps w tales (Starved c call ∷ events) so (next, more) (here, sound) = ((tt, record { next = next; sound = here; clients = so.clients }), over (after_event w (Starved c call)) tales events refl more)
-  plays keeps w tales (Unnamed c call op asked ∷ events) so (next, more) (here, sound) = ((tt, record { next = next; sound = here; clients = so.clients }), over (after_event w (Unnamed c call op asked)) tales events refl more)
 
   -- no call is open in the opening world
   none_open : AllOpen opening_world no_tales

@@ -1,5 +1,5 @@
 -- What an answer says of the world is so: a bad answer of a hook is one, and an arena that isn't there isn't live.
-use Rattle.replay_run.proofs.Words.{◌≡◌, false, is_live, ℕ, max, List, Option, None, Some, IfSome, refl, sym, subst, rules, arith, nat_tests, nat_lt, Ask, Alloc, Answer, Placed, BadReply, Reply, Why, Space, Op, AskFacts, Answered, Item, ToldItem, Request, DeskFacts, AskPoint, Growing, Needing, Mine, Knows, Point, Turns, Asks, Tells, TurnPoint, Next, Go, Over, More, Gone, Ends, Nowhere, CallFacts, ended_by, settle, step_next, WantAsk, WantTurn, want, step, told, turn_replied, after_grow, grow_bad, answered_span, batch_goes, going, flushes, BatchFacts, batch_of, op_goes, both_true, turns-sit, sound_at, Sound, record_at, spaces_of, met_by_alloc, answered_by, moment_after, replied, answer_of, begun, seat_at, tale_begun, tale_in, Tale, AnswerCause, BadAnswer, Verb, Bool, option_map, desk_fed, done_at, ask_at, whole_chunks, step_of, op_for, reply_in, with_chunk_found, ◌<◌, ◌*◌, IsSeated, SitsAt, SpeaksAgainst, IsTrueIn, answer_begun, answer_in, WorldEvent, IsSound, IsWanted, Began, Turned, Told, World, request_of, holder_for}
+use Rattle.replay_run.proofs.Words.{◌≡◌, false, is_live, ℕ, max, List, [], ◌∷◌, ◌++◌, Option, None, Some, IfSome, refl, sym, subst, rules, arith, nat_tests, nat_lt, Ask, Alloc, Answer, Placed, BadReply, Reply, Why, Space, Op, AskFacts, Answered, Item, ToldItem, Request, DeskFacts, AskPoint, Growing, Needing, Mine, Knows, Point, Turns, Asks, Tells, TurnPoint, Next, Go, Over, More, Gone, Ends, Nowhere, CallFacts, ended_by, settle, step_next, WantAsk, WantTurn, want, step, told, turn_replied, after_grow, grow_bad, answered_span, batch_goes, going, flushes, BatchFacts, batch_of, op_goes, both_true, turns-sit, sound_at, Sound, record_at, spaces_of, met_by_alloc, answered_by, moment_after, replied, answer_of, begun, seat_at, tale_begun, tale_in, Tale, AnswerCause, BadAnswer, Verb, Bool, option_map, desk_fed, done_at, ask_at, whole_chunks, step_of, op_for, reply_in, with_chunk_found, ◌<◌, ◌*◌, IsSeated, SitsAt, SpeaksAgainst, IsTrueIn, answer_begun, answer_in, WorldEvent, IsSound, IsWanted, Began, Turned, Told, World, request_of, holder_for}
 use Rattle.space_model.specs.Outcome.{Outcome, LookNoArena, FillNoArena, AdvanceNoArena, PurgeNoArena, TakeNoArena, ResetNoArena, DestroyNoArena, CountsNoArena, SetNoArena}
 use Rattle.space_model.specs.declared.Reply.TheVariants.{NoArena}
 use Rattle.replay_run.proofs.Tales.{IsHere, seat_there}
@@ -116,6 +116,11 @@ heard_true w c call asked wants =
     by desk (Asks point (Some heard)) = tt
     by desk (Tells span b) = tt
 
+-- a list that has an item isn't empty
+never_empty : (earlier later : List Item) (item : Item) → [] ≡ earlier ++ item ∷ later → ⊥
+never_empty [] later item e = absurd (cc)
+never_empty (first ∷ earlier) later item e = absurd (cc)
+
 -- a request that begins was told of no hook
 began_true : (w : World) (c : ℕ) (verb : Verb) (whole : Bool) (request : Option Request) →
     IfSome (answer_begun w c verb request) (AnswerCause w (Began c verb whole) (option_map (tale_begun w.heap.seats c) request)) → IfSome (answer_begun w c verb request) (IsTrueIn w (Began c verb whole))
@@ -124,7 +129,7 @@ began_true w c verb whole (Some request) cause = by (answer_of (begun w.heap.sea
   where
     by : (answer : Option Answered) → IfSome answer (AnswerCause w (Began c verb whole) (Some (tale_begun w.heap.seats c request))) → IfSome answer (IsTrueIn w (Began c verb whole))
     by None cause = tt
-    by (Some (BadAnswer span why)) cause = let (place, below, is) = cause.told in absurd (omega (arith, below))
+    by (Some (BadAnswer span why)) cause = absurd (never_empty cause.earlier _ (ToldItem cause.asked) cause.told)
     by (Some answer) cause = tt
 
 -- what the answer of an event says of the world is so

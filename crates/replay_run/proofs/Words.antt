@@ -93,15 +93,15 @@ pub use Rattle.trace_text.specs.declared.lines.Verb.TheVariants.{CtlPlain, CtlWr
 pub use Rattle.replay_run.specs.Answers.{IsAligned, IsAlignedFor, MemalignsAreAligned, Tale, answer_in, tale_fed, tale_in, AnswerCause, AnswersHaveCauses, IsCaused, AllEvents, NowhereCause, answer_begun, no_tales, tale_at, tale_begun, tale_turned, tale_until, tales_after, tales_begun}
 pub use Rattle.replay_run.specs.Causes.{byte_limit, cause_of, fault_cause, first_line, has_newline, line_cause, line_limit, said_cause, verb_cause, status_of}
 pub use Rattle.replay_run.specs.Heads.{answer_line}
-pub use Rattle.replay_run.specs.Input.{ReadsTo, TakesMore, TakesSome, InBounds, IsFirst, MetEnd}
+pub use Rattle.replay_run.specs.Input.{ReadsTo, TakesMore, TakesSome, InBounds, IsFirst, IsUnended, MetEnd}
 pub use Rattle.replay_run.specs.Names.{address_at}
-pub use Rattle.replay_run.specs.Plays.{WorldEvent, IsSound, Read, Began, Turned, Told, Starved, Unnamed, after_event, ask_in, asks_among, world_after, HasSoundHeap, IsNext, line_in, lines_in, shelf_event, shelf_events, AllWorlds, IsPlay, plan_in, client_awaited, IsAskOf, IsWanted}
+pub use Rattle.replay_run.specs.Plays.{WorldEvent, IsSound, Read, Began, Turned, Told, Starved, after_event, ask_in, asks_among, world_after, HasSoundHeap, IsNext, line_in, lines_in, shelf_event, shelf_events, AllWorlds, IsPlay, plan_in, client_awaited, IsAskOf, IsWanted}
 pub use Rattle.replay_run.specs.Replays.{IsBadLine, Ending, IsEnding, Open, Prints, ReplayOf, RunOf, ending_text, Bad, Whole}
 pub use Rattle.replay_run.specs.Soaks.{PrintsSoak, SoakOf, IsSoakStatus, soak_text}
 pub use Rattle.replay_run.specs.declared.tally.Tally.{Tally}
 pub use Rattle.replay_run.specs.SoFar.{Between, Halted, StopOf, HasRead, Reached, Now, Outset, EndsHere, GoesOn, Here, is_one_step, world_at, GoesNext, IsUnread, did_line, shown_line, Reading, now_of, reading}
 pub use Rattle.replay_run.specs.Steps.{entry_count, step_limit, steps_of}
-pub use Rattle.replay_run.specs.Stops.{HasStopCause, status_for, status_in}
+pub use Rattle.replay_run.specs.Stops.{HasStopCause, IsWholeStatus, status_for, status_in}
 pub use Rattle.replay_run.specs.World.{World, Awaits, no_answers, tallied, tally_closed, awaits_or_idle, begins, begun_as, has_open_call, line_read, opening_world, request_of, Memory, Nothing, OneStep, TheEnd, TheEndBefore, TheStart, awaits_after, awaits_begun, awaits_call, names_ended, target_of, counts_text, live_counts, ended_line, names_closed, step_text, stepped, verb_at, verbs_closed, arena_with, take_in, closing_line}
 pub use Rattle.replay_run.specs.declared.input.Found.{Found}
 pub use Rattle.replay_run.specs.declared.input.Found.TheVariants.{Line as FoundLine, TooLong}

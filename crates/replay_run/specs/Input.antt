@@ -29,9 +29,14 @@ MetEnd (Line n) left met = Unit {0}
 MetEnd TooLong left met = Unit {0}
 MetEnd End left met = IsAtEnd left × (met ≡ true)
 
--- some bytes were taken behind the pending ones, and no newline is among them all where the read failed behind them
+-- no line ends among the bytes, and they are no more than a line may have
+abbrev pub IsUnended : List ℕ → Type 0
+IsUnended bytes = HasNoNewline bytes × (length bytes ≤ byte_limit)
+
+-- some bytes were taken behind the pending ones, and no line ends among them all, nor are they too many for one, where the read
+-- failed behind them
 abbrev pub TakesSome : Type 0 → List ℕ → Option (List ℕ) → Option (List ℕ) → Type 0
-TakesSome failed pending before left = (bytes : List ℕ) × Consumes before left bytes × (failed → HasNoNewline (pending ++ bytes))
+TakesSome failed pending before left = (bytes : List ℕ) × Consumes before left bytes × (failed → IsUnended (pending ++ bytes))
 
 -- the pending bytes are those from before, and those that were taken
 abbrev pub TakesMore : List ℕ → List ℕ → Option (List ℕ) → Option (List ℕ) → Type 0

@@ -5,13 +5,12 @@ use Rattle.space_model.specs.declared.Op.{Op}
 use Rattle.hook_api.specs.Asked.{AskFacts}
 use Rattle.hook_api.specs.Chain.{Event as ShelfEvent, Made, PlanSet}
 use Rattle.hook_api.specs.Hooks.{Answers as AnswersTo}
-use Rattle.call_plan.specs.Runs.{step_next}
-use Rattle.call_plan.specs.Stages.{Go, More, Point}
+use Rattle.call_plan.specs.Stages.{Go, Point}
 use Rattle.call_plan.specs.Calls.{CallFacts}
 use Rattle.call_plan.specs.Items.{Told as ToldItem}
 use Rattle.call_plan.specs.Table.{Want, WantAsk, WantTurn, is_marked, want}
 use Rattle.heap_core.specs.Arenas.{IsArenas, record_at}
-use Rattle.heap_core.specs.Heaps.{HeapFacts, answered_by, holder_for, moment_after, replied, starved_on, told_to, turned_for, unnamed_on}
+use Rattle.heap_core.specs.Heaps.{HeapFacts, answered_by, holder_for, moment_after, starved_on, told_to, turned_for}
 use Rattle.heap_core.specs.Seats.{answer_of, seat_at}
 use Rattle.heap_core.specs.Sitting.{SeatSound}
 use Rattle.report_text.specs.Lines.{ask_line, turn_line}
@@ -22,14 +21,13 @@ use Rattle.replay_run.specs.Causes.{line_cause}
 use Rattle.replay_run.specs.World.{Awaits, Memory, Nothing, OneStep, TheEnd, TheEndBefore, TheStart, World, begins, line_read, request_of, stepped}
 
 -- What happens to a world: a line is read; the call that is waited for begins; a turn is made for a client's open call, or an
--- ask of it is answered; or memory was wanting, at a turn, or behind one, where what goes back next was to be named.
+-- ask of it is answered; or memory was wanting for a turn, or to name what goes back by it, and then no turn was made.
 pub data WorldEvent : Type 0 where
   Read : Line → WorldEvent
   Began : (client : ℕ) (verb : Verb) (whole : Bool) → WorldEvent
   Turned : (client : ℕ) (call : CallFacts) (op : Op) (asked : Option AskFacts) → WorldEvent
   Told : (client : ℕ) (call : CallFacts) (asked : AskFacts) → WorldEvent
   Starved : (client : ℕ) (call : CallFacts) → WorldEvent
-  Unnamed : (client : ℕ) (call : CallFacts) (op : Op) (asked : Option AskFacts) → WorldEvent
 
 -- no memory was left, and nothing more is to come
 abbrev pub ran_out : World → HeapFacts → World
@@ -44,7 +42,6 @@ after_event w (Turned c call op asked) =
 after_event w (Told c call asked) =
     stepped w c (told_to w.heap c call asked) (ask_line c asked.ask asked.answer) (answer_of (moment_after w.heap c call (ToldItem asked)))
 after_event w (Starved c call) = ran_out w (starved_on w.heap c call)
-after_event w (Unnamed c call op asked) = ran_out w (unnamed_on w.heap c call op asked)
 
 -- the client whose open call is waited for
 abbrev pub client_awaited : Awaits → Option ℕ
@@ -73,8 +70,6 @@ IsNext w (Began c verb whole) = w.awaits ≡ TheStart c verb whole
 IsNext w (Turned c call op asked) = IsWanted w c call (WantTurn op asked)
 IsNext w (Told c call asked) = IsWanted w c call (WantAsk asked.ask) × IsAskOf w call asked
 IsNext w (Starved c call) = (op : Op) × (asked : Option AskFacts) × IsWanted w c call (WantTurn op asked) × (is_marked op ≡ true)
-IsNext w (Unnamed c call op asked) = IsWanted w c call (WantTurn op asked) × (holder_for w.heap call ≡ None)
-    × (step_next call.stage.next (replied w.heap c call op) ≡ More)
 
 -- the events of a play from a world on: each one can come next where it comes
 abbrev pub IsPlay : World → List WorldEvent → Type 0

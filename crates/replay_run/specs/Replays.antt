@@ -6,12 +6,11 @@ use Rattle.hook_api.specs.Chain.{Chain}
 use Rattle.hook_api.specs.Shelf.{Shelf}
 use Rattle.hook_api.specs.declared.kept.Journal.{Journal}
 use Rattle.heap_core.specs.Arenas.{journal_of}
-use Rattle.heap_core.specs.Heaps.{opening_heap}
 use Rattle.report_text.specs.declared.causes.Cause.{Cause}
 use Rattle.report_text.specs.declared.causes.Cause.TheVariants.{Cut}
 use Rattle.report_text.specs.Lines.{bad_line}
 use Rattle.trace_text.specs.Lines.{HasNoNewline}
-use Rattle.replay_run.specs.Causes.{cause_of, first_line, has_newline, line_limit, status_of}
+use Rattle.replay_run.specs.Causes.{byte_limit, cause_of, first_line, has_newline, line_limit, status_of}
 use Rattle.replay_run.specs.Input.{ReadsTo}
 use Rattle.replay_run.specs.Plays.{AllWorlds, WorldEvent, HasSoundHeap, IsPlay, asks_among, lines_in, shelf_events, world_after}
 use Rattle.replay_run.specs.World.{Nothing, World, closing, opening_world}
@@ -46,15 +45,21 @@ IsEnding w count rest left met Whole = IsComplete w × (rest ≡ []) × IsAtEnd 
 IsEnding w count rest left met (Bad cause) = IsComplete w × IsBadLine w.moment (count + 1) rest met cause
 IsEnding w count rest left met Open = Unit {0}
 
+-- No limit is passed where so many lines were carried out, and these bytes without a newline are left of those that were taken:
+-- they are no more than a line may have, and there are none behind the last line that a trace may have.
+abbrev pub IsWithinTrace : ℕ → List ℕ → Type 0
+IsWithinTrace count rest = (length rest ≤ byte_limit) × (count ≡ line_limit → rest ≡ [])
+
 -- What was printed where a replay ends with a status is the beginning of a report: the text of the play and its ending. It is
 -- the whole report at status 0, with the counts; at status 3 and 7, with the bad line whose cause has that status; and at
--- status 4, without an ending, where all lines that were taken whole were carried out.
+-- status 4, without an ending, where all lines that were taken whole were carried out, and no limit was passed.
 pub record Prints (status : ℕ) (w : World) (count : ℕ) (rest : List ℕ) (ending : Ending) (before after : Option (List ℕ)) : Type 0 where
   pub beginning : AppendsPrefix before after (w.text ++ ending_text w count ending)
   pub whole : status ≡ 0 → (ending ≡ Whole) × Appends before after (w.text ++ ending_text w count ending)
   pub refused : status ≡ 3 → (cause : Cause) × (ending ≡ Bad cause) × (status_of cause ≡ 3) × Appends before after (w.text ++ ending_text w count ending)
   pub limited : status ≡ 7 → (cause : Cause) × (ending ≡ Bad cause) × (status_of cause ≡ 7) × Appends before after (w.text ++ ending_text w count ending)
   pub cut_off : status ≡ 4 → (ending ≡ Open) × IsComplete w × HasNoNewline rest × Appends before after w.text
+  pub within : status ≡ 4 → IsWithinTrace count rest
 
 -- What was carried out is a play from the opening world, each world of which is sound: the journals are those of its last
 -- world, its asks are all that was heard, and what it did to the shelf leads from the shelf before to that after.
@@ -80,7 +85,15 @@ pub record ReplayOf (status : ℕ) (journals : List Journal) (heard : List AskFa
   pub ends : IsEnding (world_after opening_world events) (length (lines_in events)) rest left met ending
   pub prints : Prints status (world_after opening_world events) (length (lines_in events)) rest ending before after
 
--- the journals of the run are handed out; only where memory for a heap was wanting, so that nothing was done, none is
-abbrev pub HandsOut : ℕ → List Journal → List Journal → Type 0
-HandsOut status journals journals' =
-    (journals' ≡ journals) ⊎ ((status ≡ 6) × (journals ≡ map journal_of opening_heap.records) × (journals' ≡ []))
+-- Nothing was done for want of memory: nothing was taken of a source, the shelf was asked nothing, nothing was heard, and nothing
+-- was printed.
+pub record DoesNothing (status : ℕ) (heard : List AskFacts) (shelf_before shelf_after : Shelf) (left_before left before after : Option (List ℕ)) : Type 0 where
+  pub memory : status ≡ 6
+  pub unheard : heard ≡ []
+  pub unasked : shelf_after ≡ shelf_before
+  pub untaken : left ≡ left_before
+  pub unprinted : after ≡ before
+
+-- the journals of the run are handed out, or none where that is so, as that nothing was done
+abbrev pub HandsOut : List Journal → List Journal → Type 0 → Type 0
+HandsOut journals journals' nothing = (journals' ≡ journals) ⊎ ((journals' ≡ []) × nothing)

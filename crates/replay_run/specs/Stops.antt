@@ -21,6 +21,10 @@ abbrev pub status_in : Result ℕ Stop → ℕ
 status_in (Ok status) = status
 status_in (Err stop) = status_for stop
 
+-- the statuses of a replay that stopped at nothing: the whole report was printed, up to the counts or the bad line
+abbrev pub IsWholeStatus : ℕ → Type 0
+IsWholeStatus status = (status ≡ 0) ⊎ (status ≡ 3) ⊎ (status ≡ 7)
+
 -- the statuses with which a replay ends
 abbrev pub IsReplayStatus : ℕ → Type 0
 IsReplayStatus status = (status ≡ 0) ⊎ (status ≡ 3) ⊎ (status ≡ 4) ⊎ (status ≡ 5) ⊎ (status ≡ 6) ⊎ (status ≡ 7)

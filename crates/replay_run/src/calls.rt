@@ -112,6 +112,7 @@ fn print_step<K: Sink>(
     ensures text { OnOk result (Appends (K.held sink.old) (K.held sink.new) (shown_line shown client told.now.did (last_asked heap.now.heard) ++ ended_line client verb.now told.now.ended)) }
     ensures beginning { OnErr result (AppendsPrefix (K.held sink.old) (K.held sink.new) (shown_line shown client told.now.did (last_asked heap.now.heard) ++ ended_line client verb.now told.now.ended)) }
     ensures cause { IfErr result (λ stop. HasStopCause stop 0 0 (K.faults sink.old) (K.faults sink.new)) }
+    ensures unfailed { OnOk result (K.faults sink.new ≡ K.faults sink.old) }
     ensures counts { K.faults sink.old ≤ K.faults sink.new }
 {
     if !shown && told.ended.is_none() {
@@ -149,6 +150,7 @@ pub fn step_once<K: Sink, H: ExtentHooks>(
         → GoesOn from lines (awaits_after awaits (has_open_call state.new.heap client)) result (now_of state.new shelf.new (K.held sink.new)) }
     ensures longer { OnOk result (steps_of state.old.heap < steps_of state.new.heap) }
     ensures cause { IfErr result (λ stop. HasStopCause stop 0 0 (K.faults sink.old) (K.faults sink.new)) }
+    ensures unfailed { OnOk result (K.faults sink.new ≡ K.faults sink.old) }
     ensures counts { K.faults sink.old ≤ K.faults sink.new }
 {
     state.heap.stands();
@@ -184,6 +186,7 @@ fn answer_call<K: Sink>(
     ensures text { OnOk result (Appends (K.held sink.old) (K.held sink.new) (answer_line client verb answer)) }
     ensures beginning { OnErr result (AppendsPrefix (K.held sink.old) (K.held sink.new) (answer_line client verb answer)) }
     ensures cause { IfErr result (λ stop. HasStopCause stop 0 0 (K.faults sink.old) (K.faults sink.new)) }
+    ensures unfailed { OnOk result (K.faults sink.new ≡ K.faults sink.old) }
     ensures counts { K.faults sink.old ≤ K.faults sink.new }
 {
     text.clear();
@@ -208,6 +211,7 @@ fn begin_call<K: Sink>(
         → Here from lines (TheStart client verb whole) [] (now_of state.old shelf (K.held sink.old))
         → GoesOn from lines (awaits_after (awaits_begun client whole) (has_open_call state.new.heap client)) result (now_of state.new shelf (K.held sink.new)) }
     ensures cause { IfErr result (λ stop. HasStopCause stop 0 0 (K.faults sink.old) (K.faults sink.new)) }
+    ensures unfailed { OnOk result (K.faults sink.new ≡ K.faults sink.old) }
     ensures counts { K.faults sink.old ≤ K.faults sink.new }
 {
     let Some(request) = state.request_of(&verb) else {
@@ -246,6 +250,7 @@ pub fn run_to_end<K: Sink, H: ExtentHooks>(
         → GoesOn from lines (awaits_after awaits false) result (now_of state.new shelf.new (K.held sink.new)) }
     ensures rests { OnOk result (has_open_call state.new.heap client ≡ false) }
     ensures cause { IfErr result (λ stop. HasStopCause stop 0 0 (K.faults sink.old) (K.faults sink.new)) }
+    ensures unfailed { OnOk result (K.faults sink.new ≡ K.faults sink.old) }
     ensures counts { K.faults sink.old ≤ K.faults sink.new }
 {
     let mut told = Stepped::none();
@@ -272,6 +277,7 @@ pub fn carry_call<K: Sink, H: ExtentHooks>(
         → Here from lines (awaits_call (has_open_call state.old.heap client) client verb whole) [] (now_of state.old shelf.old (K.held sink.old))
         → GoesOn from lines Nothing result (now_of state.new shelf.new (K.held sink.new)) }
     ensures cause { IfErr result (λ stop. HasStopCause stop 0 0 (K.faults sink.old) (K.faults sink.new)) }
+    ensures unfailed { OnOk result (K.faults sink.new ≡ K.faults sink.old) }
     ensures counts { K.faults sink.old ≤ K.faults sink.new }
 {
     run_to_end(alloc, sink, shelf, state, client)?;

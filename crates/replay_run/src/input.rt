@@ -1,7 +1,7 @@
 //! Lines from a source.
 
-ghost use Rattle.std.specs.Prelude.{◌≤◌, ◌≡◌, ◌<◌, ◌++◌, ◌↔◌, IsTrue, ℕ, List, [], drop, Option, None, Bool, length, IfOk, IfErr, IfSome, OnOk, OnErr};
-ghost use Rattle.edge_io.specs.Bytes.{Consumes, Keeps};
+ghost use Rattle.std.specs.Prelude.{◌≤◌, ◌≡◌, ◌<◌, ◌++◌, ◌||◌, IsTrue, ℕ, List, [], drop, false, take, Option, None, Bool, length, IfOk, IfErr, IfSome, OnOk, OnErr};
+ghost use Rattle.edge_io.specs.Bytes.{Consumes, IsAtEnd, Keeps, Rose, is_end};
 ghost use Rattle.trace_text.specs.Lines.{HasNoNewline};
 ghost use Rattle.replay_run.specs.declared.input.Stop.TheVariants.{ReadFault};
 ghost use Rattle.replay_run.specs.Stops.{HasStopCause};
@@ -10,7 +10,7 @@ ghost use Rattle.replay_run.specs.Causes.{fault_cause, line_cause, verb_cause};
 ghost use Rattle.replay_run.specs.Input.{InBounds, IsFirst, IsReading, MetEnd, TakesSome, TakesMore, TakesAny};
 
 use crate::prints::flush;
-use edge_io::{Sink, Source};
+use edge_io::{Failed, Sink, Source};
 use memchr::memchr;
 use report_text::Cause;
 use std::alloc::{AllocError as NoMemory, Global};
@@ -126,6 +126,22 @@ fn line_in(pending: &[u8]) -> Option<Found>
     }
 }
 
+/// Reads the next bytes of the source into the buffer, and gives how many they are, as the source does. All reads of this crate
+/// are made here, and only while nothing waits in the sink: so what was printed is handed on before more input is waited for.
+fn read_some<S: Source, K: Sink>(source: &mut S, sink: &K, buf: &mut [u8]) -> Result<usize, Failed>
+    requires handed_on { K.waits sink.now ≡ false }
+    ensures bound { IfOk result (λ n. n ≤ length buf.new) }
+    ensures moved { IfOk result (λ n. Consumes (S.left source.old) (S.left source.new) (take n buf.new)) }
+    ensures end { IfOk result (λ n. n ≡ 0 → 0 < length buf.old → IsAtEnd (S.left source.new)) }
+    ensures mark { S.ended source.new ≡ (S.ended source.old || is_end result (length buf.old)) }
+    ensures failed { OnErr result (Rose (S.faults source.old) (S.faults source.new)) }
+    ensures kept { OnErr result (Keeps (S.left source.old) (S.left source.new)) }
+    ensures unfailed { OnOk result (S.faults source.new ≡ S.faults source.old) }
+    ensures counts { S.faults source.old ≤ S.faults source.new }
+{
+    source.read(buf)
+}
+
 /// Reads until the pending bytes begin with a line, or can't. What waits in the sink is handed on before each read.
 #[inline(never)]
 fn read_to_line<S: Source, K: Sink>(
@@ -140,6 +156,8 @@ fn read_to_line<S: Source, K: Sink>(
     ensures end { IfOk result (λ found. MetEnd found (S.left source.new) (S.ended source.new)) }
     ensures kept { Keeps (K.held sink.old) (K.held sink.new) }
     ensures cause { IfErr result (λ stop. HasStopCause stop (S.faults source.old) (S.faults source.new) (K.faults sink.old) (K.faults sink.new)) }
+    ensures unfailed { OnOk result (S.faults source.new ≡ S.faults source.old) }
+    ensures sink_unfailed { OnOk result (K.faults sink.new ≡ K.faults sink.old) }
     ensures counts { S.faults source.old ≤ S.faults source.new }
     ensures sink_counts { K.faults sink.old ≤ K.faults sink.new }
 {
@@ -149,10 +167,10 @@ fn read_to_line<S: Source, K: Sink>(
         }
         flush(sink)?;
         let mut buf = [0u8; READ_BYTES];
-        match source.read(&mut buf) {
+        match read_some(source, sink, &mut buf) {
             Ok(0) => return Ok(Found::End),
             Ok(count) => pending.extend(&buf[..count])?,
-            Err(_) => return Err(Stop::ReadFault),
+            Err(Failed) => return Err(Stop::ReadFault),
         }
     }
     Ok(Found::TooLong)
@@ -171,6 +189,8 @@ pub fn find_line<S: Source, K: Sink>(
     ensures end { IfOk result (λ found. MetEnd found (S.left source.new) (S.ended source.new)) }
     ensures kept { Keeps (K.held sink.old) (K.held sink.new) }
     ensures cause { IfErr result (λ stop. HasStopCause stop (S.faults source.old) (S.faults source.new) (K.faults sink.old) (K.faults sink.new)) }
+    ensures unfailed { OnOk result (S.faults source.new ≡ S.faults source.old) }
+    ensures sink_unfailed { OnOk result (K.faults sink.new ≡ K.faults sink.old) }
     ensures counts { S.faults source.old ≤ S.faults source.new }
     ensures sink_counts { K.faults sink.old ≤ K.faults sink.new }
 {
@@ -190,6 +210,8 @@ pub fn has_more<S: Source, K: Sink>(
     ensures stopped { OnErr result ((pending.now ≡ []) × Consumes (S.left source.old) (S.left source.new) []) }
     ensures kept { Keeps (K.held sink.old) (K.held sink.new) }
     ensures cause { IfErr result (λ stop. HasStopCause stop (S.faults source.old) (S.faults source.new) (K.faults sink.old) (K.faults sink.new)) }
+    ensures unfailed { OnOk result (S.faults source.new ≡ S.faults source.old) }
+    ensures sink_unfailed { OnOk result (K.faults sink.new ≡ K.faults sink.old) }
     ensures counts { S.faults source.old ≤ S.faults source.new }
     ensures sink_counts { K.faults sink.old ≤ K.faults sink.new }
 {
@@ -198,9 +220,9 @@ pub fn has_more<S: Source, K: Sink>(
     }
     flush(sink)?;
     let mut buf = [0u8; READ_BYTES];
-    match source.read(&mut buf) {
+    match read_some(source, sink, &mut buf) {
         Ok(count) => Ok(count > 0),
-        Err(_) => Err(Stop::ReadFault),
+        Err(Failed) => Err(Stop::ReadFault),
     }
 }
 

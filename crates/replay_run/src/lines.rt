@@ -28,6 +28,7 @@ fn print_idle<K: Sink>(alloc: Global, sink: &mut K, client: u32) -> Result<(), S
     ensures text { OnOk result (Appends (K.held sink.old) (K.held sink.new) (idle_line client)) }
     ensures beginning { OnErr result (AppendsPrefix (K.held sink.old) (K.held sink.new) (idle_line client)) }
     ensures cause { IfErr result (λ stop. HasStopCause stop 0 0 (K.faults sink.old) (K.faults sink.new)) }
+    ensures unfailed { OnOk result (K.faults sink.new ≡ K.faults sink.old) }
     ensures counts { K.faults sink.old ≤ K.faults sink.new }
 {
     let mut text = Vec::new(alloc);
@@ -55,6 +56,7 @@ fn print_counts<K: Sink>(
     ensures text { OnOk result (Appends (K.held sink.old) (K.held sink.new) (counts_text index counts)) }
     ensures beginning { OnErr result (AppendsPrefix (K.held sink.old) (K.held sink.new) (counts_text index counts)) }
     ensures cause { IfErr result (λ stop. HasStopCause stop 0 0 (K.faults sink.old) (K.faults sink.new)) }
+    ensures unfailed { OnOk result (K.faults sink.new ≡ K.faults sink.old) }
     ensures counts { K.faults sink.old ≤ K.faults sink.new }
 {
     let mut text = Vec::new(alloc);
@@ -75,6 +77,7 @@ fn step_line<K: Sink, H: ExtentHooks>(
         → Here from lines Nothing (Step client ∷ []) (now_of state.old shelf.old (K.held sink.old))
         → GoesOn from lines Nothing result (now_of state.new shelf.new (K.held sink.new)) }
     ensures cause { IfErr result (λ stop. HasStopCause stop 0 0 (K.faults sink.old) (K.faults sink.new)) }
+    ensures unfailed { OnOk result (K.faults sink.new ≡ K.faults sink.old) }
     ensures counts { K.faults sink.old ≤ K.faults sink.new }
 {
     if state.heap.has_call(client) {
@@ -98,6 +101,7 @@ fn end_line<K: Sink, H: ExtentHooks>(
         → Here from lines Nothing (End client ∷ []) (now_of state.old shelf.old (K.held sink.old))
         → GoesOn from lines Nothing result (now_of state.new shelf.new (K.held sink.new)) }
     ensures cause { IfErr result (λ stop. HasStopCause stop 0 0 (K.faults sink.old) (K.faults sink.new)) }
+    ensures unfailed { OnOk result (K.faults sink.new ≡ K.faults sink.old) }
     ensures counts { K.faults sink.old ≤ K.faults sink.new }
 {
     if state.heap.has_call(client) {
@@ -121,6 +125,7 @@ pub fn carry_line<K: Sink, H: ExtentHooks>(
         → Here from lines Nothing (line ∷ []) (now_of state.old shelf.old (K.held sink.old))
         → GoesOn from lines Nothing result (now_of state.new shelf.new (K.held sink.new)) }
     ensures cause { IfErr result (λ stop. HasStopCause stop 0 0 (K.faults sink.old) (K.faults sink.new)) }
+    ensures unfailed { OnOk result (K.faults sink.new ≡ K.faults sink.old) }
     ensures counts { K.faults sink.old ≤ K.faults sink.new }
 {
     match line {

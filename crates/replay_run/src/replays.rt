@@ -1,15 +1,15 @@
 //! The replay of a trace: its lines are carried out, and what they answer is printed.
 
-ghost use Rattle.std.specs.Prelude.{◌≡◌, ◌≢◌, ◌+◌, ◌<◌, ◌≤◌, ◌⊎◌, ◌++◌, ℕ, true, List, [], Option, Result, Err, map, replicate, None, IfErr, IfOk, OnErr, OnOk};
+ghost use Rattle.std.specs.Prelude.{◌≡◌, ◌≢◌, ◌+◌, ◌<◌, ◌≤◌, ◌⊎◌, ◌++◌, ℕ, false, true, List, [], Option, Result, Err, map, replicate, None, IfErr, IfOk, OnErr, OnOk};
 ghost use Rattle.edge_io.specs.Bytes.{Appends, AppendsPrefix, Keeps, Rose};
 ghost use Rattle.hook_api.specs.declared.kept.Journal.{Journal};
 ghost use Rattle.heap_core.specs.Arenas.{journal_of};
 ghost use Rattle.heap_core.specs.Heaps.{opening_heap};
 ghost use Rattle.report_text.specs.Lines.{bad_line};
 ghost use Rattle.replay_run.specs.Causes.{line_limit, status_of};
-ghost use Rattle.replay_run.specs.Replays.{HandsOut, ReplayOf};
+ghost use Rattle.replay_run.specs.Replays.{DoesNothing, HandsOut, ReplayOf};
 ghost use Rattle.replay_run.specs.SoFar.{Between, GoesNext, IsUnread, Outset, now_of, reading};
-ghost use Rattle.replay_run.specs.Stops.{HasStopCause, IsReplayStatus, status_in};
+ghost use Rattle.replay_run.specs.Stops.{HasStopCause, IsReplayStatus, IsWholeStatus, status_in};
 ghost use Rattle.replay_run.specs.declared.input.Stop.TheVariants.{ReadFault, WriteFault};
 ghost use Rattle.replay_run.specs.World.{closing, closing_line, live_counts, no_answers};
 
@@ -94,6 +94,8 @@ fn next_line<S: Source, K: Sink, H: ExtentHooks>(
         → Between from left count (reading pending.old (S.left source.old) (S.ended source.old)) (now_of state.old shelf.old (K.held sink.old))
         → GoesNext from left count result (reading pending.new (S.left source.new) (S.ended source.new)) (now_of state.new shelf.new (K.held sink.new)) }
     ensures cause { IfErr result (λ stop. HasStopCause stop (S.faults source.old) (S.faults source.new) (K.faults sink.old) (K.faults sink.new)) }
+    ensures unfailed { OnOk result (S.faults source.new ≡ S.faults source.old) }
+    ensures sink_unfailed { OnOk result (K.faults sink.new ≡ K.faults sink.old) }
     ensures source_counts { S.faults source.old ≤ S.faults source.new }
     ensures sink_counts { K.faults sink.old ≤ K.faults sink.new }
 {
@@ -127,6 +129,7 @@ fn refuse_line<K: Sink>(alloc: Global, sink: &mut K, number: u64, cause: Cause) 
     ensures text { OnOk result (Appends (K.held sink.old) (K.held sink.new) (bad_line number cause)) }
     ensures beginning { OnErr result (AppendsPrefix (K.held sink.old) (K.held sink.new) (bad_line number cause)) }
     ensures cause { IfErr result (λ stop. HasStopCause stop 0 0 (K.faults sink.old) (K.faults sink.new)) }
+    ensures unfailed { OnOk result (K.faults sink.new ≡ K.faults sink.old) }
     ensures sink_counts { K.faults sink.old ≤ K.faults sink.new }
 {
     let mut text = Vec::new(alloc);
@@ -162,6 +165,7 @@ pub fn print_last<K: Sink>(sink: &mut K, text: Result<Vec<u8>, NoMemory>) -> Res
     ensures text { (bytes : List ℕ) → IfOk text (λ t. t.items ≡ bytes) → OnOk result (Appends (K.held sink.old) (K.held sink.new) bytes) }
     ensures beginning { (bytes : List ℕ) → IfOk text (λ t. t.items ≡ bytes) → OnErr result (AppendsPrefix (K.held sink.old) (K.held sink.new) bytes) }
     ensures cause { IfErr result (λ stop. HasStopCause stop 0 0 (K.faults sink.old) (K.faults sink.new)) }
+    ensures unfailed { OnOk result (K.faults sink.new ≡ K.faults sink.old) }
     ensures sink_counts { K.faults sink.old ≤ K.faults sink.new }
 {
     let text = text?;
@@ -175,6 +179,7 @@ fn close<K: Sink>(alloc: Global, sink: &mut K, state: &State) -> Result<u8, Stop
     ensures text { OnOk result (Appends (K.held sink.old) (K.held sink.new) (closing state.now.heap)) }
     ensures beginning { OnErr result (AppendsPrefix (K.held sink.old) (K.held sink.new) (closing state.now.heap)) }
     ensures cause { IfErr result (λ stop. HasStopCause stop 0 0 (K.faults sink.old) (K.faults sink.new)) }
+    ensures unfailed { OnOk result (K.faults sink.new ≡ K.faults sink.old) }
     ensures sink_counts { K.faults sink.old ≤ K.faults sink.new }
 {
     print_last(sink, closing_text(alloc, state))
@@ -197,6 +202,8 @@ fn run_lines<S: Source, K: Sink, H: ExtentHooks>(
         shelf.new (S.ended source.new) (S.left source.old) (S.left source.new) (K.held sink.old) (K.held sink.new) }
     ensures status { IfOk result (λ status. (status ≡ 0) ⊎ (status ≡ 3) ⊎ (status ≡ 7)) }
     ensures cause { IfErr result (λ stop. HasStopCause stop (S.faults source.old) (S.faults source.new) (K.faults sink.old) (K.faults sink.new)) }
+    ensures unfailed { OnOk result (S.faults source.new ≡ S.faults source.old) }
+    ensures sink_unfailed { OnOk result (K.faults sink.new ≡ K.faults sink.old) }
     ensures source_counts { S.faults source.old ≤ S.faults source.new }
     ensures sink_counts { K.faults sink.old ≤ K.faults sink.new }
 {
@@ -235,6 +242,8 @@ fn status_in(ended: Result<u8, Stop>) -> u8
 fn flush_last<K: Sink>(sink: &mut K, ended: Result<u8, Stop>) -> Result<u8, Stop>
     ensures kept { Keeps (K.held sink.old) (K.held sink.new) }
     ensures same { (result ≡ ended) ⊎ ((result ≡ Err WriteFault) × Rose (K.faults sink.old) (K.faults sink.new)) }
+    ensures unfailed { OnOk result (K.faults sink.new ≡ K.faults sink.old) }
+    ensures handed_on { OnOk result (K.waits sink.new ≡ false) }
     ensures counts { K.faults sink.old ≤ K.faults sink.new }
 {
     match (ended, flush(sink)) {
@@ -271,6 +280,8 @@ pub fn leave<K: Sink, H: ExtentHooks>(
     ensures journals { result.journals ≡ map journal_of state.heap.records }
     ensures heard { result.heard ≡ state.heap.heard }
     ensures kept { Keeps (K.held sink.old) (K.held sink.new) }
+    ensures unfailed { IsWholeStatus result.status → K.faults sink.new ≡ K.faults sink.old }
+    ensures handed_on { IsWholeStatus result.status → K.waits sink.new ≡ false }
     ensures counts { K.faults sink.old ≤ K.faults sink.new }
     ensures known { IsReplayStatus result.status }
 {
@@ -290,7 +301,8 @@ pub fn leave<K: Sink, H: ExtentHooks>(
 /// The first bad line is answered by its number and its cause, and ends the replay: with status 7 where it is behind the
 /// 1,048,576 lines that a trace may have, has more than 256 bytes or names a client above 31, and else with status 3. After a
 /// read that failed the status is 4, after a write that failed 5, and 6 where memory was wanting. The journals and the asks are
-/// those up to there. Only where memory for the heap itself was wanting, and nothing was done, no journals are handed back.
+/// those up to there. Only where memory for the heap itself was wanting, and nothing was read, asked or printed, no journals
+/// are handed back.
 pub fn replay<S: Source, K: Sink, H: ExtentHooks>(
     alloc: Global,
     source: &mut S,
@@ -299,10 +311,14 @@ pub fn replay<S: Source, K: Sink, H: ExtentHooks>(
 ) -> Replayed<H>
     ensures replay { (journals : List Journal) × ReplayOf result.status journals result.heard shelf result.shelf
         (S.ended source.new) (S.left source.old) (S.left source.new) (K.held sink.old) (K.held sink.new)
-        × HandsOut result.status journals result.journals }
+        × HandsOut journals result.journals (DoesNothing result.status result.heard shelf result.shelf
+        (S.left source.old) (S.left source.new) (K.held sink.old) (K.held sink.new)) }
     ensures ended { result.status ≡ 0 → S.ended source.new ≡ true }
     ensures read_fault { result.status ≡ 4 → Rose (S.faults source.old) (S.faults source.new) }
     ensures write_fault { result.status ≡ 5 → Rose (K.faults sink.old) (K.faults sink.new) }
+    ensures unfailed { IsWholeStatus result.status → S.faults source.new ≡ S.faults source.old }
+    ensures sink_unfailed { IsWholeStatus result.status → K.faults sink.new ≡ K.faults sink.old }
+    ensures handed_on { IsWholeStatus result.status → K.waits sink.new ≡ false }
     ensures known { IsReplayStatus result.status }
 {
     let mut shelf = shelf;

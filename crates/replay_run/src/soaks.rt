@@ -1,12 +1,12 @@
 //! The soak: lines that are drawn are carried out, and the counts at their end are printed.
 
-ghost use Rattle.std.specs.Prelude.{◌≡◌, ◌≤◌, ◌++◌, List, [], map, replicate, None, IfErr, IfOk, OnOk};
+ghost use Rattle.std.specs.Prelude.{◌≡◌, ◌≤◌, ◌++◌, false, List, [], map, replicate, None, IfErr, IfOk, OnOk};
 ghost use Rattle.edge_io.specs.Bytes.{Rose};
 ghost use Rattle.hook_api.specs.declared.kept.Journal.{Journal};
 ghost use Rattle.heap_core.specs.Arenas.{journal_of};
 ghost use Rattle.heap_core.specs.Heaps.{opening_heap};
 ghost use Rattle.report_text.specs.Lines.{calls_line};
-ghost use Rattle.replay_run.specs.Replays.{HandsOut};
+ghost use Rattle.replay_run.specs.Replays.{DoesNothing, HandsOut};
 ghost use Rattle.replay_run.specs.SoFar.{Here, Halted, Outset, now_of};
 ghost use Rattle.replay_run.specs.Soaks.{IsSoakStatus, SoakOf};
 ghost use Rattle.replay_run.specs.Stops.{HasStopCause, status_in};
@@ -74,6 +74,7 @@ fn run_soak<K: Sink, H: ExtentHooks>(
     ensures soak { SoakOf (status_in result) lines (map journal_of state.new.heap.records) state.new.heap.heard shelf.old shelf.new (K.held sink.old) (K.held sink.new) }
     ensures status { IfOk result (λ status. status ≡ 0) }
     ensures cause { IfErr result (λ stop. HasStopCause stop 0 0 (K.faults sink.old) (K.faults sink.new)) }
+    ensures unfailed { OnOk result (K.faults sink.new ≡ K.faults sink.old) }
     ensures counts { K.faults sink.old ≤ K.faults sink.new }
 {
     let calls = lines.len();
@@ -85,8 +86,8 @@ fn run_soak<K: Sink, H: ExtentHooks>(
 /// live at the end, and how many calls answered Ok and how many otherwise. The calls themselves print nothing.
 ///
 /// After a write that failed the status is 5, and 6 where memory was wanting; before the last line nothing is printed. The
-/// journals and the asks are those up to there. Only where memory for the heap itself was wanting, and nothing was done, no
-/// journals are handed back.
+/// journals and the asks are those up to there. Only where memory for the heap itself was wanting, and nothing was asked or
+/// printed, no journals are handed back.
 pub fn soak<K: Sink, H: ExtentHooks>(
     alloc: Global,
     lines: Lines,
@@ -94,8 +95,10 @@ pub fn soak<K: Sink, H: ExtentHooks>(
     shelf: HookShelf<H>,
 ) -> Replayed<H>
     ensures soak { (journals : List Journal) × SoakOf result.status lines journals result.heard shelf result.shelf (K.held sink.old) (K.held sink.new)
-        × HandsOut result.status journals result.journals }
+        × HandsOut journals result.journals (DoesNothing result.status result.heard shelf result.shelf None None (K.held sink.old) (K.held sink.new)) }
     ensures write_fault { result.status ≡ 5 → Rose (K.faults sink.old) (K.faults sink.new) }
+    ensures unfailed { result.status ≡ 0 → K.faults sink.new ≡ K.faults sink.old }
+    ensures handed_on { result.status ≡ 0 → K.waits sink.new ≡ false }
     ensures known { IsSoakStatus result.status }
 {
     let mut shelf = shelf;

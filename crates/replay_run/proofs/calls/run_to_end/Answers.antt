@@ -21,7 +21,7 @@ steps-preserved g c = record {
       let open_now : has_open_call c.steps.state.heap c.args.client ≡ true = sym c.has_call.ensures ∙ c.steps-test.true in
       let here = rw (open_now, awaits_going awaits shown) at (c.steps.invariant.goes from lines awaits awaited shown so) in
       c.in_ok-step_once.ensures.goes from lines awaits awaited shown here;
-  faults = omega (arith, c.steps.invariant.faults, c.step_once.ensures.counts);
+  faults = omega (arith, c.steps.invariant.faults, c.in_ok-step_once.ensures.unfailed);
 }
 
 pub returns-clause-goes : goal.returns-clause-goes

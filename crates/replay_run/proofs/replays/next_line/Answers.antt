@@ -7,7 +7,7 @@ use Rattle.replay_run.proofs.replays.next_line.Goals as goal
 pub returns-in_err-found-clause-goes : goal.returns-in_err-found-clause-goes
 returns-in_err-found-clause-goes g c = λ from left count below between.
     next_stop from left count c.from_residual.result c.in_err-found.field-0.0 _ _ c.from_residual.ensures.1
-    (stops_reading (between_kept between (g.K.Sink.held c.find_line.new.sink) c.find_line.ensures.kept) c.in_err-found.field-0.0 (g.S.Source.left c.find_line.new.source) (g.S.Source.ended c.find_line.new.source) c.in_err-found.ensures.stopped)
+    (stops_reading (between_kept between (g.K.Sink.held c.find_line.new.sink) c.find_line.ensures.kept) below c.in_err-found.field-0.0 (g.S.Source.left c.find_line.new.source) (g.S.Source.ended c.find_line.new.source) c.in_err-found.ensures.stopped)
 
 pub returns-in_default-clause-goes : goal.returns-in_default-clause-goes
 returns-in_default-clause-goes g c = λ from left count below between.

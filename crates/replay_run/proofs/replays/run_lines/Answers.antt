@@ -1,8 +1,8 @@
-use Rattle.replay_run.proofs.Words.{arith, ◌≡◌, [], ◌++◌, refl, LimitLines, ReadFault, line_limit, status_of, Bad, Whole}
+use Rattle.replay_run.proofs.Words.{arith, ◌≡◌, ◌∙◌, [], ◌++◌, refl, LimitLines, line_limit, status_of, Bad, Whole}
 use Rattle.replay_run.proofs.BadLines.{bad_many}
-use Rattle.replay_run.proofs.Ends.{cause_wider, here_none, read_none, replay_passed, status_closed, takes_none}
+use Rattle.replay_run.proofs.Ends.{cause_wider, here_none, on_ok, read_none, replay_passed, stays_on, status_closed}
 use Rattle.replay_run.proofs.NextLines.{between_found, between_kept}
-use Rattle.replay_run.proofs.Stops.{ends_last, stops_reading}
+use Rattle.replay_run.proofs.Stops.{ends_last, stops_looking}
 use Rattle.replay_run.proofs.replays.run_lines.Goals as goal
 
 pub loop-count-init : goal.loop-count-init
@@ -37,16 +37,16 @@ returns-in-Over-clause-replay g c =
 pub loop-count-preserved : goal.loop-count-preserved
 loop-count-preserved g c = record {
   here = rw c.in-Carried.is at (c.in_ok-next_line.ensures.goes _ _ c.loop-count.count c.loop-count-test.true c.loop-count.invariant.here);
-  source_faults = omega (arith, c.loop-count.invariant.source_faults, c.next_line.ensures.source_counts);
-  sink_faults = omega (arith, c.loop-count.invariant.sink_faults, c.next_line.ensures.sink_counts);
+  source_faults = omega (arith, c.loop-count.invariant.source_faults, c.in_ok-next_line.ensures.unfailed);
+  sink_faults = omega (arith, c.loop-count.invariant.sink_faults, c.in_ok-next_line.ensures.sink_unfailed);
 }
 
 pub returns-in_err-has_more-clause-replay : goal.returns-in_err-has_more-clause-replay
 returns-in_err-has_more-clause-replay g c =
     let stop = c.in_err-has_more.field-0.0 in
     replay_passed c.from_residual-in_err-has_more.result stop c.from_residual-in_err-has_more.ensures.1
-    (stops_reading (between_kept c.loop-count.invariant.here (g.K.Sink.held c.has_more.new.sink) c.has_more.ensures.kept) stop (g.S.Source.left c.has_more.new.source) (g.S.Source.ended c.has_more.new.source)
-    (takes_none (stop ≡ ReadFault) c.loop-count.pending _ _ c.in_err-has_more.ensures.stopped.0 c.in_err-has_more.ensures.stopped.1))
+    (stops_looking (between_kept c.loop-count.invariant.here (g.K.Sink.held c.has_more.new.sink) c.has_more.ensures.kept) stop (g.S.Source.left c.has_more.new.source) (g.S.Source.ended c.has_more.new.source)
+    c.in_err-has_more.ensures.stopped.0 c.in_err-has_more.ensures.stopped.1)
 
 pub returns-then-branch-clause-replay : goal.returns-then-branch-clause-replay
 returns-then-branch-clause-replay g c =
@@ -77,3 +77,15 @@ returns-in-Over-clause-status g c = status_closed c.close.result c.close.ensures
 
 pub returns-clause-status : goal.returns-clause-status
 returns-clause-status g c = status_closed c.close-2.result c.close-2.ensures.status
+
+pub returns-in-Over-clause-unfailed : goal.returns-in-Over-clause-unfailed
+returns-in-Over-clause-unfailed g c = on_ok c.close.result (c.in_ok-next_line.ensures.unfailed ∙ c.loop-count.invariant.source_faults)
+
+pub returns-in-Over-clause-sink_unfailed : goal.returns-in-Over-clause-sink_unfailed
+returns-in-Over-clause-sink_unfailed g c = stays_on c.close.result _ _ _ (c.in_ok-next_line.ensures.sink_unfailed ∙ c.loop-count.invariant.sink_faults) c.close.ensures.unfailed
+
+pub returns-clause-unfailed : goal.returns-clause-unfailed
+returns-clause-unfailed g c = on_ok c.close-2.result (c.in_ok-has_more.ensures.unfailed ∙ c.loop-count.invariant.source_faults)
+
+pub returns-clause-sink_unfailed : goal.returns-clause-sink_unfailed
+returns-clause-sink_unfailed g c = stays_on c.close-2.result _ _ _ (c.in_ok-has_more.ensures.sink_unfailed ∙ c.loop-count.invariant.sink_faults) c.close-2.ensures.unfailed
