@@ -6,10 +6,13 @@ ghost use Rattle.hook_api.specs.Hooks.{HookCall, placed_answer, said_answer};
 ghost use Rattle.addr_space.specs.Shared.{shared_account};
 
 use crate::space::AddrSpace;
-use hook_api::{ExtentHooks, Placed, Said};
+use hook_api::{ExtentHooks, HookShelf, Placed, Said};
 use space_model::{Answer, Ask, Span};
 use std::alloc::{AllocError as NoMemory, Global};
 use std::sync::{Arc, Mutex, Wait};
+
+/// How many boxes of hooks a shelf has.
+const BOXES: usize = 32;
 
 /// A count of refusals, which stays at the greatest `u64`.
 #[derive(Drop)]
@@ -59,6 +62,16 @@ impl<R: Wait + Clone + Send + Drop> SharedSpace<R> {
             space: Arc::new(alloc, Mutex::new(inner))?,
             refusals: Refusals { count: 0 },
         })
+    }
+
+    /// A shelf whose 32 boxes share one new space of addresses.
+    pub fn shelf(rt: &R, alloc: Global) -> Result<HookShelf<SharedSpace<R>>, NoMemory> {
+        let first = SharedSpace::new(rt.clone()?, alloc, AddrSpace::new(alloc)?)?;
+        let mut boxes = Vec::new(alloc);
+        while boxes.len() < BOXES {
+            boxes.push(first.again()?)?;
+        }
+        Ok(HookShelf::new(boxes))
     }
 
     /// One more box over the same space. It has refused nothing.

@@ -1,3 +1,5 @@
 mod OneWord
 mod Lists
 mod Numbers
+mod Completing
+mod Verdicts

@@ -1,11 +1,18 @@
 -- The lists of words exclude each other.
-use Rattle.std.proofs.Common.{◌≡◌, ℕ, List, [], ◌∷◌, get_or, length, sym, ◌∙◌, ap, arith}
+use Rattle.std.proofs.Common.{◌≡◌, ℕ, List, [], get_or, length, sym, ◌∙◌, ap, arith}
 use Rattle.std.proofs.lemmas.Fmt.{decimal_injective}
-use Rattle.jarena.specs.Words.{IsInNoList, IsReplay, IsSoak}
+use Rattle.jarena.specs.Words.{IsCheck, IsInNoList, IsReplay, IsSoak}
 
 -- words of a replay are none of a soak
 pub replay_no_soak : (words : List (List ℕ)) (start calls : ℕ) → IsReplay words → IsSoak words start calls → ⊥
 replay_no_soak words start calls replay soak = absurd (omega (arith, ap length (sym replay ∙ soak.0)))
+
+-- words of a check are none of another list
+pub check_no_replay : (words : List (List ℕ)) → IsCheck words → IsReplay words → ⊥
+check_no_replay words check replay = absurd (omega (arith, ap (λ (ws : List (List ℕ)). length (get_or ws 0 [])) (sym check ∙ replay)))
+
+pub check_no_soak : (words : List (List ℕ)) (start calls : ℕ) → IsCheck words → IsSoak words start calls → ⊥
+check_no_soak words start calls check soak = absurd (omega (arith, ap length (sym check ∙ soak.0)))
 
 -- words of a list are in a list
 pub replay_in_list : (words : List (List ℕ)) → IsReplay words → IsInNoList words → ⊥
@@ -13,6 +20,9 @@ replay_in_list words replay none = none.0 replay
 
 pub soak_in_list : (words : List (List ℕ)) (start calls : ℕ) → IsSoak words start calls → IsInNoList words → ⊥
 soak_in_list words start calls soak none = none.1 start calls soak
+
+pub check_in_list : (words : List (List ℕ)) → IsCheck words → IsInNoList words → ⊥
+check_in_list words check none = none.2 check
 
 -- words of a soak tell its start and how many calls
 pub soak_start : (words : List (List ℕ)) (start calls start' calls' : ℕ) → IsSoak words start calls → IsSoak words start' calls' → start ≡ start'

@@ -1,2 +1,4 @@
 pub mod Words
+pub mod Facts
+pub mod Checks
 pub mod Runs

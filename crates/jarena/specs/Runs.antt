@@ -1,25 +1,17 @@
 -- What a run of the program does, by the list of words that it is given: one record for each list.
-use Rattle.std.specs.Prelude.{◌≡◌, ◌⊎◌, ℕ, Bool, true, List, [], Option}
+use Rattle.std.specs.Prelude.{◌≡◌, ◌≢◌, ◌⊎◌, ℕ, Bool, true, false, List, [], Option, None}
 use Rattle.edge_io.specs.Bytes.{Appends, AppendsPrefix, Rose}
 use Rattle.hook_api.specs.Asked.{AskFacts}
 use Rattle.hook_api.specs.Shelf.{Shelf}
 use Rattle.hook_api.specs.declared.kept.Journal.{Journal}
 use Rattle.report_text.specs.Lines.{usage_line}
-use Rattle.replay_run.specs.Replays.{HandsOut, ReplayOf}
+use Rattle.report_text.specs.declared.causes.Cause.{Cause}
+use Rattle.replay_run.specs.Replays.{Bad, DoesNothing, HandsOut, ReplayOf}
 use Rattle.replay_run.specs.Soaks.{IsSoakStatus, SoakOf}
-use Rattle.replay_run.specs.Stops.{IsReplayStatus}
+use Rattle.replay_run.specs.Stops.{IsReplayStatus, IsWholeStatus}
 use Rattle.trace_soak.specs.Soak.{lines}
-
--- what is told of a source: the bytes that are left, where it tells them, whether its end was met, and its count of faults
-pub record SourceFacts : Type 0 where
-  pub left : Option (List ℕ)
-  pub ended : Bool
-  pub faults : ℕ
-
--- what is told of a sink: the bytes that it holds, where it tells them, and its count of faults
-pub record SinkFacts : Type 0 where
-  pub held : Option (List ℕ)
-  pub faults : ℕ
+use Rattle.jarena.specs.Checks.{IsChecked}
+pub use Rattle.jarena.specs.Facts.{SinkFacts, SourceFacts, sink_facts, source_facts}
 
 -- what a run leaves: its status, the shelf, the journals and what was heard
 pub record RunFacts : Type 0 where
@@ -27,14 +19,6 @@ pub record RunFacts : Type 0 where
   pub shelf : Shelf
   pub journals : List Journal
   pub heard : List AskFacts
-
--- a source, as it tells itself
-abbrev pub source_facts : Option (List ℕ) → Bool → ℕ → SourceFacts
-source_facts left ended faults = record { left = left; ended = ended; faults = faults }
-
--- a sink, as it tells itself
-abbrev pub sink_facts : Option (List ℕ) → ℕ → SinkFacts
-sink_facts held faults = record { held = held; faults = faults }
 
 -- what is left, by its parts
 abbrev pub run_facts : ℕ → Shelf → List Journal → List AskFacts → RunFacts
@@ -46,27 +30,45 @@ TellsUsage status old new =
     ((status ≡ 2) × Appends old.held new.held usage_line) ⊎
     ((status ≡ 5) × Rose old.faults new.faults × AppendsPrefix old.held new.held usage_line)
 
--- Words in no list: the usage line is written, and nothing else is done.
+-- Words in no list: the usage line is written, and nothing else is done. At status 2 nothing failed and nothing waits.
 pub record OnlyTellsUsage (run : RunFacts) (shelf : Shelf) (sink sink' : SinkFacts) : Type 0 where
   pub tells : TellsUsage run.status sink sink'
+  pub unfailed : run.status ≡ 2 → sink'.faults ≡ sink.faults
+  pub handed_on : run.status ≡ 2 → sink'.waits ≡ false
   pub unasked : run.heard ≡ []
   pub no_journals : run.journals ≡ []
   pub same_shelf : run.shelf ≡ shelf
 
--- `replay`: the lines of the source are replayed.
+-- `replay`: the lines of the source are replayed. Where the status says that the report is whole, nothing failed and nothing
+-- waits; and where no count of faults rose and no line is bad, the status is 0, or 6 for want of memory.
 pub record Replays (run : RunFacts) (shelf : Shelf) (source source' : SourceFacts) (sink sink' : SinkFacts) : Type 0 where
   pub journals : List Journal
   pub replay : ReplayOf run.status journals run.heard shelf run.shelf source'.ended source.left source'.left sink.held sink'.held
-  pub hands_out : HandsOut run.status journals run.journals
+  pub hands_out : HandsOut journals run.journals (DoesNothing run.status run.heard shelf run.shelf source.left source'.left sink.held sink'.held)
   pub ended : run.status ≡ 0 → source'.ended ≡ true
   pub read_fault : run.status ≡ 4 → Rose source.faults source'.faults
   pub write_fault : run.status ≡ 5 → Rose sink.faults sink'.faults
+  pub unfailed : IsWholeStatus run.status → (source'.faults ≡ source.faults) × (sink'.faults ≡ sink.faults)
+  pub handed_on : IsWholeStatus run.status → sink'.waits ≡ false
   pub known : IsReplayStatus run.status
+  pub completes : ((cause : Cause) → replay.ending ≢ Bad cause) → (Rose source.faults source'.faults → ⊥) → (Rose sink.faults sink'.faults → ⊥)
+      → (run.status ≡ 0) ⊎ (run.status ≡ 6)
 
--- `soak START CALLS`: the lines that are drawn from the start, so many, are carried out.
+-- `soak START CALLS`: the lines that are drawn from the start, so many, are carried out. At status 0 nothing failed and nothing
+-- waits; and where the count of faults didn't rise, the status is 0, or 6 for want of memory.
 pub record Soaks (start calls : ℕ) (run : RunFacts) (shelf : Shelf) (sink sink' : SinkFacts) : Type 0 where
   pub journals : List Journal
   pub soak : SoakOf run.status (lines start calls) journals run.heard shelf run.shelf sink.held sink'.held
-  pub hands_out : HandsOut run.status journals run.journals
+  pub hands_out : HandsOut journals run.journals (DoesNothing run.status run.heard shelf run.shelf None None sink.held sink'.held)
   pub write_fault : run.status ≡ 5 → Rose sink.faults sink'.faults
+  pub unfailed : run.status ≡ 0 → sink'.faults ≡ sink.faults
+  pub handed_on : run.status ≡ 0 → sink'.waits ≡ false
   pub known : IsSoakStatus run.status
+  pub completes : (Rose sink.faults sink'.faults → ⊥) → (run.status ≡ 0) ⊎ (run.status ≡ 6)
+
+-- `check`: the lines of the source are judged as journals, and nothing else is done.
+pub record Checks (run : RunFacts) (shelf : Shelf) (source source' : SourceFacts) (sink sink' : SinkFacts) : Type 0 where
+  pub checks : IsChecked run.status source source' sink sink'
+  pub unasked : run.heard ≡ []
+  pub no_journals : run.journals ≡ []
+  pub same_shelf : run.shelf ≡ shelf

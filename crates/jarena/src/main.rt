@@ -2,13 +2,14 @@
 //! its extent hooks, and writes a report to standard output.
 #![tactic(auto)]
 
+mod checks;
 mod runs;
 mod status;
 #[cfg(test)]
 mod tests;
 mod words;
 
-use addr_space::{AddrSpace, SharedSpace};
+use addr_space::SharedSpace;
 use edge_io::{ReadEdge, WriteEdge};
 use hook_api::{ExtentHooks, HookShelf};
 use runs::run;
@@ -19,9 +20,6 @@ use std::io::{BufWriter, ErrorKind};
 use std::process::ExitCode;
 use std::sync::Wait;
 
-/// How many boxes of hooks a shelf has.
-const BOXES: usize = 32;
-
 /// The words, without the program's name. Words that aren't text are in no list, as no words are.
 fn given_words(rt: &HostRuntime) -> Result<Vec<String>, NoMemory> {
     match env::args(rt) {
@@ -29,19 +27,6 @@ fn given_words(rt: &HostRuntime) -> Result<Vec<String>, NoMemory> {
         Err(error) if error.kind() == ErrorKind::OutOfMemory => Err(NoMemory),
         Err(_) => Ok(Vec::new(rt.alloc())),
     }
-}
-
-/// A shelf of boxes that share one space of addresses.
-fn sharing_shelf<R: Wait + Clone + Send + Drop>(
-    rt: R,
-    alloc: Global,
-) -> Result<HookShelf<SharedSpace<R>>, NoMemory> {
-    let first = SharedSpace::new(rt, alloc, AddrSpace::new(alloc)?)?;
-    let mut boxes = Vec::new(alloc);
-    while boxes.len() < BOXES {
-        boxes.push(first.again()?)?;
-    }
-    Ok(HookShelf::new(boxes))
 }
 
 /// Runs the program on standard input and standard output, and gives its status.
@@ -63,7 +48,7 @@ fn run_sharing<R: Wait + Clone + Send + Drop>(
     rt: &HostRuntime,
     waiting: &R,
 ) -> Result<u8, NoMemory> {
-    let shelf = sharing_shelf(waiting.clone()?, rt.alloc())?;
+    let shelf = SharedSpace::shelf(waiting, rt.alloc())?;
     run_on_streams(rt, shelf)
 }
 

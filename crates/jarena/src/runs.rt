@@ -1,9 +1,10 @@
 //! The top call: all that the program does, over a source, a sink and a shelf of hooks.
 
-ghost use Rattle.std.specs.Prelude.{◌≡◌, ◌⊎◌, ℕ, map, string_bytes};
-ghost use Rattle.jarena.specs.Runs.{OnlyTellsUsage, Replays, Soaks, run_facts, sink_facts, source_facts};
-ghost use Rattle.jarena.specs.Words.{IsInNoList, IsReplay, IsSoak};
+ghost use Rattle.std.specs.Prelude.{◌≡◌, ◌⊎◌, ℕ, [], map, string_bytes};
+ghost use Rattle.jarena.specs.Runs.{Checks, OnlyTellsUsage, Replays, Soaks, run_facts, sink_facts, source_facts};
+ghost use Rattle.jarena.specs.Words.{IsCheck, IsInNoList, IsReplay, IsSoak};
 
+use crate::checks::check_journals;
 use crate::words::{Asked, asked_by, tell_usage};
 use edge_io::{Sink, Source};
 use hook_api::{Askeds, ExtentHooks, HookShelf, Journals};
@@ -18,9 +19,9 @@ pub struct Outcome<H: ExtentHooks> {
     pub status: u8,
     /// The shelf that was handed in, after the asks of the run.
     pub shelf: HookShelf<H>,
-    /// The journals of the arenas; none where the words are in no list, or memory for the arenas was wanting.
+    /// The journals of the arenas; none where the words ask for no run of calls, or memory for the arenas was wanting.
     pub journals: Journals,
-    /// Every ask of the run, in order; none where the words are in no list.
+    /// Every ask of the run, in order; none where the words ask for no run of calls.
     pub heard: Askeds,
 }
 
@@ -39,11 +40,27 @@ fn outcome_of<H: ExtentHooks>(replayed: Replayed<H>) -> Outcome<H>
     }
 }
 
+/// The outcome of a run that asked no hook.
+fn untouched<H: ExtentHooks>(alloc: Global, status: u8, shelf: HookShelf<H>) -> Outcome<H>
+    ensures status { result.status ≡ status }
+    ensures shelf { result.shelf ≡ shelf }
+    ensures journals { result.journals ≡ [] }
+    ensures heard { result.heard ≡ [] }
+{
+    Outcome {
+        status,
+        shelf,
+        journals: Journals::none(alloc),
+        heard: Askeds::new(alloc),
+    }
+}
+
 /// Does all that the program does, given its words without its own name.
 ///
 /// Where the words are exactly `replay`, it carries out the lines of the source and prints what they answer. Where they are
-/// exactly `soak START CALLS`, it carries out lines that are drawn, and prints the counts at their end. Where they are in no
-/// list, it writes the usage line and gives status 2, or 5 where the sink failed, and does nothing else.
+/// exactly `soak START CALLS`, it carries out lines that are drawn, and prints the counts at their end. Where they are exactly
+/// `check`, it judges the lines of the source as printed journals. Where they are in no list, it writes the usage line and gives
+/// status 2, or 5 where the sink failed, and does nothing else.
 pub fn run<S: Source, K: Sink, H: ExtentHooks>(
     alloc: Global,
     words: &[String],
@@ -52,26 +69,25 @@ pub fn run<S: Source, K: Sink, H: ExtentHooks>(
     shelf: HookShelf<H>,
 ) -> Outcome<H>
     ensures usage { IsInNoList (map string_bytes words.now) → OnlyTellsUsage (run_facts result.status result.shelf result.journals result.heard) shelf
-        (sink_facts (K.held sink.old) (K.faults sink.old)) (sink_facts (K.held sink.new) (K.faults sink.new)) }
+        (sink_facts (K.held sink.old) (K.faults sink.old) (K.waits sink.old)) (sink_facts (K.held sink.new) (K.faults sink.new) (K.waits sink.new)) }
     ensures status_2 { result.status ≡ 2 → IsInNoList (map string_bytes words.now) }
-    ensures unread { IsReplay (map string_bytes words.now) ⊎ (source.new ≡ source.old) }
+    ensures unread { IsReplay (map string_bytes words.now) ⊎ (IsCheck (map string_bytes words.now) ⊎ (source.new ≡ source.old)) }
     ensures replay { IsReplay (map string_bytes words.now) → Replays (run_facts result.status result.shelf result.journals result.heard) shelf
         (source_facts (S.left source.old) (S.ended source.old) (S.faults source.old)) (source_facts (S.left source.new) (S.ended source.new) (S.faults source.new))
-        (sink_facts (K.held sink.old) (K.faults sink.old)) (sink_facts (K.held sink.new) (K.faults sink.new)) }
+        (sink_facts (K.held sink.old) (K.faults sink.old) (K.waits sink.old)) (sink_facts (K.held sink.new) (K.faults sink.new) (K.waits sink.new)) }
     ensures soak { (start : ℕ) (calls : ℕ) → IsSoak (map string_bytes words.now) start calls
         → Soaks start calls (run_facts result.status result.shelf result.journals result.heard) shelf
-        (sink_facts (K.held sink.old) (K.faults sink.old)) (sink_facts (K.held sink.new) (K.faults sink.new)) }
+        (sink_facts (K.held sink.old) (K.faults sink.old) (K.waits sink.old)) (sink_facts (K.held sink.new) (K.faults sink.new) (K.waits sink.new)) }
+    ensures check { IsCheck (map string_bytes words.now) → Checks (run_facts result.status result.shelf result.journals result.heard) shelf
+        (source_facts (S.left source.old) (S.ended source.old) (S.faults source.old)) (source_facts (S.left source.new) (S.ended source.new) (S.faults source.new))
+        (sink_facts (K.held sink.old) (K.faults sink.old) (K.waits sink.old)) (sink_facts (K.held sink.new) (K.faults sink.new) (K.waits sink.new)) }
 {
     match asked_by(words) {
         Asked::Replay => outcome_of(replay(alloc, source, sink, shelf)),
         Asked::Soak { start, calls } => {
             outcome_of(soak(alloc, Lines::new(start, calls), sink, shelf))
         }
-        Asked::Nothing => Outcome {
-            status: tell_usage(sink),
-            shelf,
-            journals: Journals::none(alloc),
-            heard: Askeds::new(alloc),
-        },
+        Asked::Check => untouched(alloc, check_journals(alloc, source, sink), shelf),
+        Asked::Nothing => untouched(alloc, tell_usage(sink), shelf),
     }
 }

@@ -2,12 +2,14 @@
 
 use crate::runs::run;
 use addr_space::LyingHooks;
-use edge_io::{MemSink, MemSource};
+use edge_io::{MemSink, MemSource, WriteEdge};
 use hook_api::{ExtentHooks, HookShelf, Placed, RisingHooks};
 use std::alloc::{AllocError as NoMemory, Global};
+use std::io::{self, ErrorKind, Write};
 use std::test::Fail;
 
-const USAGE: &str = "usage: jarena replay [--json] | threads [--journal] | soak START CALLS\n";
+const USAGE: &str =
+    "usage: jarena replay [--json] | threads [--journal] | soak START CALLS | check\n";
 
 const LINE: &str = "t0 malloc a 20000\n";
 
@@ -17,6 +19,25 @@ const MAPPED: &str =
     "arena 0 allocated 20480 active 20480 dirty 0 muzzy 0 retained 2076672 flight 0 mapped 20480\n";
 
 const EMPTY: &str = "arena 0 allocated 0 active 0 dirty 0 muzzy 0 retained 0 flight 0 mapped 0\n";
+
+const JOURNAL: &str = "0 0 look 5 1\n\
+    0 0 growdone alloc - 512 512 0 placed 512 1 1 -\n\
+    0 0 cutdone split 512 512 5 done 1\n\
+    0 0 land 512 5 37 1\n";
+
+const ACCEPTED: &str =
+    "arena 0 entries 4 allocated 20480 active 20480 dirty 0 muzzy 0 retained 2076672 flight 0 mapped 20480\n\
+    accepted 4\n";
+
+const NO_ENTRIES: &str =
+    "arena 0 entries 0 allocated 0 active 0 dirty 0 muzzy 0 retained 0 flight 0 mapped 0\naccepted 0\n";
+
+const MEETING: &str = "0 0 look 5 1\n\
+    0 0 growdone alloc - 512 512 0 placed 512 1 1 -\n\
+    1 0 set live 1 10000 0 0\n\
+    1 0 set bind\n\
+    1 0 look 5 1\n\
+    1 0 growdone alloc - 512 512 0 placed 512 1 1 -\n";
 
 /// What a run is given: its words, its input, and the ordinals of the reads and the writes that fail.
 #[derive(Clone, Copy)]
@@ -53,16 +74,43 @@ fn lying(alloc: Global, first: u64) -> Result<HookShelf<LyingHooks>, NoMemory> {
     Ok(HookShelf::new(boxes))
 }
 
+/// A writer that takes all, and whose flush with this ordinal fails.
+#[derive(Drop)]
+struct Flushing {
+    flushes: u64,
+    failing: u64,
+}
+
+impl Write for Flushing {
+    fn write(&mut self, buf: &[u8]) -> io::Result<usize> {
+        Ok(buf.len())
+    }
+
+    fn flush(&mut self) -> io::Result<()> {
+        self.flushes = self.flushes.saturating_add(1);
+        if self.flushes == self.failing {
+            return Err(io::Error::from(ErrorKind::Other));
+        }
+        Ok(())
+    }
+}
+
+/// These words as texts.
+fn texts(alloc: Global, words: &[&str]) -> Result<Vec<String>, NoMemory> {
+    let mut texts = Vec::new(alloc);
+    for word in words {
+        texts.push(String::from_str(alloc, word)?)?;
+    }
+    Ok(texts)
+}
+
 /// Runs the program over a shelf, and gives what came of that.
 fn outcome_over<H: ExtentHooks>(
     alloc: Global,
     given: Given<'_>,
     shelf: HookShelf<H>,
 ) -> Result<Outcome, NoMemory> {
-    let mut words = Vec::new(alloc);
-    for word in given.words {
-        words.push(String::from_str(alloc, word)?)?;
-    }
+    let words = texts(alloc, given.words)?;
     let input = given.input.as_bytes().to_vec(alloc)?;
     let mut source = MemSource::new(input, given.reads.to_vec(alloc)?);
     let mut sink = MemSink::new(alloc, given.writes.to_vec(alloc)?);
@@ -132,6 +180,44 @@ fn a_soak_prints_its_counts_alone(rt: HostRuntime) -> Result<(), Fail> {
 }
 
 #[test]
+fn a_check_tells_its_verdict(rt: HostRuntime) -> Result<(), Fail> {
+    // The input, the reads and the writes that fail; then the status and the output.
+    let rows: [(&str, &[u64], &[u64], u8, &str); 8] = [
+        (JOURNAL, &[], &[], 0, ACCEPTED),
+        ("", &[], &[], 0, NO_ENTRIES),
+        (
+            "0 0 look 5 1\n0 0 land 512 5 37 1\n",
+            &[],
+            &[],
+            8,
+            "line 2: step\n",
+        ),
+        (
+            "0 0 look 5 1\n0 0 look 05 1\n",
+            &[],
+            &[],
+            8,
+            "line 2: entry\n",
+        ),
+        ("0 0 look 5 1\narena", &[], &[], 8, "line 2: entry\n"),
+        (MEETING, &[], &[], 8, "chunk 1: arenas 0 1\n"),
+        (JOURNAL, &[1], &[], 4, ""),
+        (JOURNAL, &[], &[1], 5, ""),
+    ];
+    for (input, reads, writes, status, text) in rows {
+        let given = Given {
+            words: &["check"],
+            input,
+            reads,
+            writes,
+        };
+        let (told, output, handed) = outcome(rt.alloc(), given)?;
+        assert_eq!(rt; (told, output.as_str(), handed), (status, text, [0, 0]));
+    }
+    Ok(())
+}
+
+#[test]
 fn a_replay_hands_out_what_it_did(rt: HostRuntime) -> Result<(), Fail> {
     // The input, the reads and writes that fail; then the status, the output's parts, and how many asks were heard.
     let rows: [(&str, &[u64], &[u64], u8, [&str; 2], usize); 4] = [
@@ -187,6 +273,55 @@ fn wrong_ranges_are_told(rt: HostRuntime) -> Result<(), Fail> {
         };
         let (status, output, _) = outcome_over(rt.alloc(), given, lying(rt.alloc(), first)?)?;
         assert_eq!(rt; (status, output.as_str()), (0, report));
+    }
+    Ok(())
+}
+
+#[test]
+fn a_flush_that_fails_is_a_write_that_failed(rt: HostRuntime) -> Result<(), Fail> {
+    // The words, the ordinal of the flush that fails, and the status. A replay of one line flushes before it looks for each of
+    // two lines and at its end, and what writes alone does at its end.
+    let rows: [(&[&str], u64, u8); 8] = [
+        (&["replay"], 1, 5),
+        (&["replay"], 2, 5),
+        (&["replay"], 3, 5),
+        (&["replay"], 4, 0),
+        (&["soak", "0", "2"], 1, 5),
+        (&["soak", "0", "2"], 2, 0),
+        (&["help"], 1, 5),
+        (&["help"], 2, 2),
+    ];
+    let alloc = rt.alloc();
+    for (words, failing, status) in rows {
+        let mut source = MemSource::new(LINE.as_bytes().to_vec(alloc)?, Vec::new(alloc));
+        let mut sink = WriteEdge::new(Flushing {
+            flushes: 0,
+            failing,
+        });
+        let words = texts(alloc, words)?;
+        let run = run(alloc, &words, &mut source, &mut sink, rising(alloc)?);
+        assert_eq!(rt; run.status, status);
+    }
+    Ok(())
+}
+
+#[test]
+fn a_limit_comes_before_a_read_that_fails(rt: HostRuntime) -> Result<(), Fail> {
+    // How many letters stand there without a newline, and the status and the report where the read behind them would fail.
+    let rows = [(256, 4, ""), (257, 7, "line 1: limit bytes\n")];
+    for (count, status, report) in rows {
+        let mut input = String::new(rt.alloc());
+        for _ in 0..count {
+            input.push('a')?;
+        }
+        let given = Given {
+            words: &["replay"],
+            input: input.as_str(),
+            reads: &[2],
+            writes: &[],
+        };
+        let (seen, output, handed) = outcome(rt.alloc(), given)?;
+        assert_eq!(rt; (seen, output.as_str(), handed), (status, report, [32, 0]));
     }
     Ok(())
 }

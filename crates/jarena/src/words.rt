@@ -1,12 +1,12 @@
 //! The words that the program is given.
 
-ghost use Rattle.std.specs.Prelude.{◌≡◌, ◌≢◌, ◌∷◌, [], ℕ, ◌^◌, ◌<◌, ◌↔◌, IfNone, IfSome, IsTrue, MatchOption, map, string_bytes};
+ghost use Rattle.std.specs.Prelude.{◌≡◌, ◌≢◌, ◌∷◌, [], ℕ, false, ◌^◌, ◌<◌, ◌↔◌, IfNone, IfSome, IsTrue, MatchOption, map, string_bytes};
 ghost use Rattle.std.specs.Fmt.{decimal};
 ghost use Rattle.jarena.specs.Runs.{TellsUsage, sink_facts};
-ghost use Rattle.jarena.specs.Words.{IsAsked, IsNoSoak, IsReplay, IsSoak};
+ghost use Rattle.jarena.specs.Words.{IsAsked, IsNoSoak, IsSoak};
 
 use crate::status::{BAD_WORDS, SINK_FAILED};
-use edge_io::{Failed, Sink, write_all};
+use edge_io::{Failed, Sink, write_whole};
 use itoa::Buffer;
 use report_text::usage_line;
 
@@ -22,14 +22,19 @@ pub(crate) enum Asked {
     Replay,
     /// A soak of so many calls, drawn from a start.
     Soak { start: u64, calls: u64 },
+    /// A check of journals.
+    Check,
 }
 
 /// What the words, without the program's name, ask for.
 pub(crate) fn asked_by(words: &[String]) -> Asked
     ensures { IsAsked (map string_bytes words.now) result }
 {
-    if is_replay(words) {
+    if is_word(words, "replay") {
         return Asked::Replay;
+    }
+    if is_word(words, "check") {
+        return Asked::Check;
     }
     match soak_asked(words) {
         Some((start, calls)) => Asked::Soak { start, calls },
@@ -37,12 +42,12 @@ pub(crate) fn asked_by(words: &[String]) -> Asked
     }
 }
 
-/// Whether the words, without the program's name, are exactly `replay`.
-fn is_replay(words: &[String]) -> bool
-    ensures { IsTrue result ↔ IsReplay (map string_bytes words.now) }
+/// Whether the words, without the program's name, are exactly this one.
+fn is_word(words: &[String], wanted: &str) -> bool
+    ensures { IsTrue result ↔ (map string_bytes words.now ≡ wanted.now ∷ []) }
 {
     match words {
-        [word] => word.as_str() == "replay",
+        [word] => word.as_str() == wanted,
         _ => false,
     }
 }
@@ -96,12 +101,11 @@ fn is_printed(number: u64, word: &str) -> bool
 
 /// Writes the usage line, and gives the status of words that are in no list: 2, or 5 where the sink fails.
 pub(crate) fn tell_usage<K: Sink>(sink: &mut K) -> u8
-    ensures { TellsUsage result (sink_facts (K.held sink.old) (K.faults sink.old)) (sink_facts (K.held sink.new) (K.faults sink.new)) }
+    ensures tells { TellsUsage result (sink_facts (K.held sink.old) (K.faults sink.old) (K.waits sink.old)) (sink_facts (K.held sink.new) (K.faults sink.new) (K.waits sink.new)) }
+    ensures unfailed { result ≡ 2 → K.faults sink.new ≡ K.faults sink.old }
+    ensures handed_on { result ≡ 2 → K.waits sink.new ≡ false }
 {
-    let Ok(()) = write_all(sink, usage_line().as_bytes()) else {
-        return SINK_FAILED;
-    };
-    match sink.flush() {
+    match write_whole(sink, usage_line().as_bytes()) {
         Ok(()) => BAD_WORDS,
         Err(Failed) => SINK_FAILED,
     }

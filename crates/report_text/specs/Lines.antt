@@ -65,6 +65,31 @@ bad_line number cause = codes "line " ++ decimal number ++ codes ": " ++ cause_t
 unfoldable pub calls_line : ℕ → ℕ → ℕ → List ℕ
 calls_line calls good failed = codes "calls " ++ decimal calls ++ codes " ok " ++ decimal good ++ codes " failed " ++ decimal failed ++ newline
 
+-- all these counts
+unfoldable pub counts_text : Counts → List ℕ
+counts_text counts = used_text counts ++ codes " " ++ unused_text counts ++ codes " " ++ mapped_text counts
+
+-- a live arena at the end of journals that were checked: how many entries it has, and its counts
+unfoldable pub entries_line : ℕ → ℕ → Counts → List ℕ
+entries_line index entries counts =
+    codes "arena " ++ decimal index ++ codes " entries " ++ decimal entries ++ codes " " ++ counts_text counts ++ newline
+
+-- journals of so many entries are accepted
+unfoldable pub accepted_line : ℕ → List ℕ
+accepted_line entries = codes "accepted " ++ decimal entries ++ newline
+
+-- the line of a journal with this number is no entry's text
+unfoldable pub no_entry_line : ℕ → List ℕ
+no_entry_line number = codes "line " ++ decimal number ++ codes ": entry" ++ newline
+
+-- the entry of the line with this number may not stand where it comes
+unfoldable pub no_step_line : ℕ → List ℕ
+no_step_line number = codes "line " ++ decimal number ++ codes ": step" ++ newline
+
+-- a chunk that two arenas own
+unfoldable pub met_line : ℕ → ℕ → ℕ → List ℕ
+met_line chunk low high = codes "chunk " ++ decimal chunk ++ codes ": arenas " ++ decimal low ++ codes " " ++ decimal high ++ newline
+
 -- the word lists that there are
 unfoldable pub usage_line : List ℕ
-usage_line = codes "usage: jarena replay [--json] | threads [--journal] | soak START CALLS" ++ newline
+usage_line = codes "usage: jarena replay [--json] | threads [--journal] | soak START CALLS | check" ++ newline

@@ -1,7 +1,7 @@
 //! The texts of the counts of an arena, in bytes.
 
 ghost use Rattle.std.specs.Prelude.{Some};
-ghost use Rattle.report_text.specs.Lines.{used_text, unused_text, mapped_text};
+ghost use Rattle.report_text.specs.Lines.{counts_text, used_text, unused_text, mapped_text};
 
 use space_model::Counts;
 use std::fmt;
@@ -54,5 +54,21 @@ impl<'a> fmt::Display for MappedText<'a> {
     fn fmt<W: fmt::Write>(&self, f: &mut fmt::Formatter<W>) -> fmt::Result {
         let Counts { flight, mapped, .. } = *self.0;
         write!(f, "flight {flight} mapped {mapped}")
+    }
+}
+
+/// All of them.
+#[derive(Clone, Copy)]
+pub(crate) struct CountsText<'a>(pub(crate) &'a Counts);
+
+impl<'a> fmt::Display for CountsText<'a> {
+    ghost output = { λ counts. Some (counts_text counts.0.now) };
+
+    #[tactic(auto, unfolding(crate::specs::Lines::counts_text))]
+    fn fmt<W: fmt::Write>(&self, f: &mut fmt::Formatter<W>) -> fmt::Result {
+        let used = UsedText(self.0);
+        let unused = UnusedText(self.0);
+        let mapped = MappedText(self.0);
+        write!(f, "{used} {unused} {mapped}")
     }
 }

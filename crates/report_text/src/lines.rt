@@ -4,10 +4,10 @@ ghost use Rattle.std.specs.Prelude.{◌≡◌, ◌≤◌, ◌++◌, [], codes, l
 ghost use Rattle.call_plan.specs.declared.needs.Given.{Given};
 ghost use Rattle.report_text.specs.Heads.{head_name};
 ghost use Rattle.report_text.specs.Answers.{ended_text, given_text};
-ghost use Rattle.report_text.specs.Lines.{newline, call_line, turn_line, ask_line, idle_line, counts_line, no_arena_line, bad_line, calls_line, usage_line};
+ghost use Rattle.report_text.specs.Lines.{newline, call_line, turn_line, ask_line, idle_line, counts_line, no_arena_line, bad_line, calls_line, entries_line, accepted_line, no_entry_line, no_step_line, met_line, usage_line};
 
 use crate::answers::{AnswerText, SaidText, kind, size};
-use crate::counts::{MappedText, UnusedText, UsedText};
+use crate::counts::{CountsText, MappedText, UnusedText, UsedText};
 use crate::heads::{has_short_name, lay_head, word};
 use crate::rows::Row;
 use crate::{Cause, Head};
@@ -167,10 +167,56 @@ pub fn calls_line(out: &mut Vec<u8>, calls: u64, good: u64, failed: u64) -> Resu
     writeln!(out, "calls {calls} ok {good} failed {failed}").map_err(no_memory)
 }
 
+/// The line of a live arena at the end of journals that were checked: `arena I entries E` and its counts by name, in bytes.
+#[tactic(auto, unfolding(crate::specs::Lines::entries_line))]
+pub fn entries_line(
+    out: &mut Vec<u8>,
+    index: u32,
+    entries: u64,
+    counts: &Counts,
+) -> Result<(), NoMemory>
+    ensures { OnOk result (out.new.items ≡ out.old.items ++ entries_line index entries counts.now) }
+{
+    let counts = CountsText(counts);
+    writeln!(out, "arena {index} entries {entries} {counts}").map_err(no_memory)
+}
+
+/// The line on journals that are accepted, with how many entries they have: `accepted N`.
+#[tactic(auto, unfolding(crate::specs::Lines::accepted_line))]
+pub fn accepted_line(out: &mut Vec<u8>, entries: u64) -> Result<(), NoMemory>
+    ensures { OnOk result (out.new.items ≡ out.old.items ++ accepted_line entries) }
+{
+    writeln!(out, "accepted {entries}").map_err(no_memory)
+}
+
+/// The line on a line of journals that is no entry's text: `line N: entry`.
+#[tactic(auto, unfolding(crate::specs::Lines::no_entry_line))]
+pub fn no_entry_line(out: &mut Vec<u8>, number: u64) -> Result<(), NoMemory>
+    ensures { OnOk result (out.new.items ≡ out.old.items ++ no_entry_line number) }
+{
+    writeln!(out, "line {number}: entry").map_err(no_memory)
+}
+
+/// The line on a line of journals whose entry may not stand where it comes: `line N: step`.
+#[tactic(auto, unfolding(crate::specs::Lines::no_step_line))]
+pub fn no_step_line(out: &mut Vec<u8>, number: u64) -> Result<(), NoMemory>
+    ensures { OnOk result (out.new.items ≡ out.old.items ++ no_step_line number) }
+{
+    writeln!(out, "line {number}: step").map_err(no_memory)
+}
+
+/// The line on journals at whose end two arenas own a chunk: `chunk C: arenas I J`.
+#[tactic(auto, unfolding(crate::specs::Lines::met_line))]
+pub fn met_line(out: &mut Vec<u8>, chunk: u64, low: u32, high: u32) -> Result<(), NoMemory>
+    ensures { OnOk result (out.new.items ≡ out.old.items ++ met_line chunk low high) }
+{
+    writeln!(out, "chunk {chunk}: arenas {low} {high}").map_err(no_memory)
+}
+
 /// The line on words that are in no list that there is.
 #[tactic(auto, unfolding(crate::specs::Lines::usage_line))]
 pub fn usage_line() -> &'static str
     ensures { result.now ≡ usage_line }
 {
-    "usage: jarena replay [--json] | threads [--journal] | soak START CALLS\n"
+    "usage: jarena replay [--json] | threads [--journal] | soak START CALLS | check\n"
 }

@@ -221,7 +221,7 @@ fn prints_causes(rt: HostRuntime) -> Result<(), Fail> {
 
 #[test]
 fn the_usage_line_names_the_lists_of_words(rt: HostRuntime) -> Result<(), Fail> {
-    let want = "usage: jarena replay [--json] | threads [--journal] | soak START CALLS\n";
+    let want = "usage: jarena replay [--json] | threads [--journal] | soak START CALLS | check\n";
     assert_eq!(rt; usage_line(), want);
     Ok(())
 }

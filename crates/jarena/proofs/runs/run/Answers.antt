@@ -1,5 +1,6 @@
 use Rattle.std.proofs.Common.{inl, inr, refl, sym, ◌∙◌, arith}
-use Rattle.jarena.proofs.Lists.{replay_in_list, replay_no_soak, soak_calls, soak_in_list, soak_start}
+use Rattle.jarena.proofs.Completing.{replay_completes, soak_completes}
+use Rattle.jarena.proofs.Lists.{check_in_list, check_no_replay, check_no_soak, replay_in_list, replay_no_soak, soak_calls, soak_in_list, soak_start}
 use Rattle.jarena.proofs.runs.run.Goals as goal
 
 -- ---- a replay
@@ -16,18 +17,25 @@ returns-in-Replay-clause-unread g c = inl c.in-Replay.ensures
 pub returns-in-Replay-clause-replay : goal.returns-in-Replay-clause-replay
 returns-in-Replay-clause-replay g c = λ is.
     let told = c.replay.ensures in
-    let out = c.outcome_of.ensures in record {
+    let out = c.outcome_of.ensures in
+    rw (out.status, out.shelf, out.journals, out.heard) (record {
       journals = told.replay.0;
-      replay = rw (out.status, out.shelf, out.heard) told.replay.1;
-      hands_out = rw (out.status, out.journals) told.replay.2;
-      ended = λ zero. told.ended (sym out.status ∙ zero);
-      read_fault = λ four. told.read_fault (sym out.status ∙ four);
-      write_fault = λ five. told.write_fault (sym out.status ∙ five);
-      known = rw out.status told.known;
-    }
+      replay = told.replay.1;
+      hands_out = told.replay.2;
+      ended = told.ended;
+      read_fault = told.read_fault;
+      write_fault = told.write_fault;
+      unfailed = λ whole. (told.unfailed whole, told.sink_unfailed whole);
+      handed_on = told.handed_on;
+      known = told.known;
+      completes = replay_completes told.replay.1 told.known told.read_fault told.write_fault;
+    })
 
 pub returns-in-Replay-clause-soak : goal.returns-in-Replay-clause-soak
 returns-in-Replay-clause-soak g c = λ start calls is. absurd (replay_no_soak _ start calls c.in-Replay.ensures is)
+
+pub returns-in-Replay-clause-check : goal.returns-in-Replay-clause-check
+returns-in-Replay-clause-check g c = λ is. absurd (check_no_replay _ is c.in-Replay.ensures)
 
 -- ---- a soak
 
@@ -38,7 +46,7 @@ pub returns-in-Soak-clause-status_2 : goal.returns-in-Soak-clause-status_2
 returns-in-Soak-clause-status_2 g c = λ two. absurd (omega (arith, two, c.outcome_of-in-Soak.ensures.status, c.soak.ensures.known))
 
 pub returns-in-Soak-clause-unread : goal.returns-in-Soak-clause-unread
-returns-in-Soak-clause-unread g c = inr refl
+returns-in-Soak-clause-unread g c = inr (inr refl)
 
 pub returns-in-Soak-clause-replay : goal.returns-in-Soak-clause-replay
 returns-in-Soak-clause-replay g c = λ is. absurd (replay_no_soak _ _ _ is c.in-Soak.ensures)
@@ -51,9 +59,41 @@ returns-in-Soak-clause-soak g c = λ start calls is.
     let many = soak_calls _ start calls c.in-Soak.start c.in-Soak.calls is c.in-Soak.ensures in record {
       journals = told.soak.0;
       soak = rw (from, many, out.status, out.shelf, out.heard, ← c.new.ensures) told.soak.1;
-      hands_out = rw (out.status, out.journals) told.soak.2;
+      hands_out = rw (out.status, out.shelf, out.journals, out.heard) told.soak.2;
       write_fault = λ five. told.write_fault (sym out.status ∙ five);
+      unfailed = λ zero. told.unfailed (sym out.status ∙ zero);
+      handed_on = λ zero. told.handed_on (sym out.status ∙ zero);
       known = rw out.status told.known;
+      completes = rw out.status (soak_completes c.soak.result.status told.known told.write_fault);
+    }
+
+pub returns-in-Soak-clause-check : goal.returns-in-Soak-clause-check
+returns-in-Soak-clause-check g c = λ is. absurd (check_no_soak _ _ _ is c.in-Soak.ensures)
+
+-- ---- a check
+
+pub returns-in-Check-clause-usage : goal.returns-in-Check-clause-usage
+returns-in-Check-clause-usage g c = λ none. absurd (check_in_list _ c.in-Check.ensures none)
+
+pub returns-in-Check-clause-status_2 : goal.returns-in-Check-clause-status_2
+returns-in-Check-clause-status_2 g c = λ two. absurd (c.check_journals.ensures.not_usage (sym c.untouched.ensures.status ∙ two))
+
+pub returns-in-Check-clause-unread : goal.returns-in-Check-clause-unread
+returns-in-Check-clause-unread g c = inr (inl c.in-Check.ensures)
+
+pub returns-in-Check-clause-replay : goal.returns-in-Check-clause-replay
+returns-in-Check-clause-replay g c = λ is. absurd (check_no_replay _ c.in-Check.ensures is)
+
+pub returns-in-Check-clause-soak : goal.returns-in-Check-clause-soak
+returns-in-Check-clause-soak g c = λ start calls is. absurd (check_no_soak _ start calls c.in-Check.ensures is)
+
+pub returns-in-Check-clause-check : goal.returns-in-Check-clause-check
+returns-in-Check-clause-check g c = λ is.
+    let out = c.untouched.ensures in record {
+      checks = rw out.status c.check_journals.ensures.checked;
+      unasked = out.heard;
+      no_journals = out.journals;
+      same_shelf = out.shelf;
     }
 
 -- ---- words in no list
@@ -62,10 +102,13 @@ pub returns-in-Nothing-clause-status_2 : goal.returns-in-Nothing-clause-status_2
 returns-in-Nothing-clause-status_2 g c = λ two. c.in-Nothing.ensures
 
 pub returns-in-Nothing-clause-unread : goal.returns-in-Nothing-clause-unread
-returns-in-Nothing-clause-unread g c = inr refl
+returns-in-Nothing-clause-unread g c = inr (inr refl)
 
 pub returns-in-Nothing-clause-replay : goal.returns-in-Nothing-clause-replay
 returns-in-Nothing-clause-replay g c = λ is. absurd (replay_in_list _ is c.in-Nothing.ensures)
 
 pub returns-in-Nothing-clause-soak : goal.returns-in-Nothing-clause-soak
 returns-in-Nothing-clause-soak g c = λ start calls is. absurd (soak_in_list _ start calls is c.in-Nothing.ensures)
+
+pub returns-in-Nothing-clause-check : goal.returns-in-Nothing-clause-check
+returns-in-Nothing-clause-check g c = λ is. absurd (check_in_list _ is c.in-Nothing.ensures)

@@ -1,5 +1,5 @@
 use Rattle.std.proofs.Common.{◌-◌, ◌≤◌, vec_len}
-use Rattle.jarena.proofs.sharing_shelf.Given as goal
+use Rattle.addr_space.proofs.shared.SharedSpace.shelf.Given as goal
 
 abbrev pub invariant-loop-boxes : goal.invariant-loop-boxes
 invariant-loop-boxes g l = vec_len l.boxes ≤ 32

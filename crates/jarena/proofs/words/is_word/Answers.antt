@@ -1,6 +1,6 @@
 use Rattle.std.proofs.Common.{string_bytes}
 use Rattle.jarena.proofs.OneWord.{one_text}
-use Rattle.jarena.proofs.words.is_replay.Goals as goal
+use Rattle.jarena.proofs.words.is_word.Goals as goal
 
 pub returns-in-len1 : goal.returns-in-len1
 returns-in-len1 c =
