@@ -1,7 +1,8 @@
 -- What a change of one client leaves of a heap.
 use Rattle.heap_core.proofs.Words.{◌≡◌, ◌≢◌, ◌≤◌, ◌<◌, ℕ, ◌-◌, false, List, Option, length, slice_set, get_or, refl, sym, ap, subst, ◌∙◌, arith, get_or_default, get_or-set_other, get_or-set_same, length-set, opens, room_after, room_of, Op, AskFacts, CallFacts, IsArenas, no_record, record_after, record_at, room_in, spaces_of, with_chunk_found, CanTurn, after_turn, owed_to, IsHeap, owing, Record, Seat, first_seat, seat_at, SeatSound, None, Result, Ok, Err, OnOk, OnErr, replicate, get_or-replicate, length-replicate, set-get_or, Request, IsInRange, begin, opening_records, asked_for, seat_of, IsSeated}
-use Rattle.heap_core.proofs.Clients.{at_or_else, elsewhere_is, opens_settled, there_is}
-use Rattle.heap_core.proofs.Sitting.{others-sit, opening-sits, starts-sit}
+use Rattle.heap_core.proofs.Clients.{opens_settled, others-sit, starts-sit}
+use Rattle.heap_core.proofs.Sitting.{opening-sits}
+use Rattle.sits.proofs.Indexes.{at_or_else, elsewhere_is, there_is}
 use Rattle.heap_core.proofs.Wanting.{owed_begun}
 
 -- ---- rooms
@@ -12,7 +13,7 @@ pub room_elsewhere : (records : List Record) (arena c i other : ℕ) (op : Op) (
 room_elsewhere records arena c i other op asked is there differ =
     let new : Record = record_after (record_at records arena) c (with_chunk_found (spaces_of records) arena op) asked in
     at_or_else (λ k. room_in (after_turn records arena c op asked) k other ≡ room_in records k other) i arena
-    (λ same. ap (λ (r : Record). room_of other r.rooms) (there_is records arena new is there) ∙ get_or-set_other (record_at records arena).rooms c other _ 0 (differ (sym same)))
+    (λ same. ap (λ (r : Record). room_of other r.rooms) (there_is records arena new is.number there) ∙ get_or-set_other (record_at records arena).rooms c other _ 0 (differ (sym same)))
     (λ far. ap (λ (r : Record). room_of other r.rooms) (elsewhere_is records arena i new far))
 
 -- a turn without memory takes one of its client's room

@@ -1,8 +1,9 @@
 -- What a turn, an ask or the want of memory leaves of a heap, and what a step then tells.
-use Rattle.heap_core.proofs.Words.{◌≡◌, ◌≢◌, ◌≤◌, ◌<◌, ℕ, ◌+◌, Bool, true, false, List, Option, None, Some, Result, Ok, Err, IsSomeAnd, slice_set, refl, sym, ap, subst, ◌∙◌, arith, Shelf, opens, Ask, AnswersTo, Op, Point, Go, Want, Reply, AskFacts, Replied, Told, Starved, Answered, Item, moment_of, Goes, CallFacts, want, Moment, after, WantTurn, WantAsk, is_marked, step, IsArenas, reply_in, room_in, spaces_of, with_chunk_found, CanTurn, after_turn, FedTo, HeapFacts, IsStep, IsSure, holder_for, DidTurn, owed_to, IsHeap, owing, Record, Seat, seat_at, seat_of, Comes, SeatSound, MadeTurn, item_of, is_some, get_or, get_or_default, position-Some, Publish, not_holding, Held, held_at, Next, taken_next, holding_client, asks_next, first_seat, holder_of, HolderIs, TurnFacts, region_in_seat}
+use Rattle.heap_core.proofs.Words.{◌≡◌, ◌≢◌, ◌≤◌, ◌<◌, ℕ, ◌+◌, Bool, true, false, List, Option, None, Some, Result, Ok, Err, IsSomeAnd, slice_set, refl, sym, ap, subst, ◌∙◌, arith, Shelf, opens, Ask, AnswersTo, Op, Point, Go, Want, Reply, AskFacts, Replied, Told, Starved, Answered, Item, moment_of, Goes, CallFacts, want, Moment, after, WantTurn, WantAsk, is_marked, IsArenas, reply_in, room_in, spaces_of, with_chunk_found, CanTurn, after_turn, FedTo, HeapFacts, IsStep, IsSure, holder_for, DidTurn, owed_to, IsHeap, owing, Record, Seat, seat_at, seat_of, Comes, SeatSound, MadeTurn, item_of, is_some, get_or, get_or_default, position-Some, Publish, not_holding, Held, held_at, Next, taken_next, holding_client, asks_next, first_seat, holder_of, HolderIs, TurnFacts, region_in_seat}
 use Rattle.heap_core.proofs.Wanting.{GoesOn, IsFed, Starving, Wanted, asks_promised, fed_at, few_asks, opens_marked, owed_after, owed_asked, room_asked, some_has, starved_ends}
 use Rattle.heap_core.proofs.Changes.{Stays, heap_changed, room_used, seated_stays, turned_stays, room_elsewhere}
-use Rattle.heap_core.proofs.Sitting.{asks-sit, starves-sit, turns-sit, holders-publish}
+use Rattle.heap_core.proofs.Clients.{asks-sit, starves-sit, turns-sit}
+use Rattle.heap_core.proofs.Sitting.{holders-publish}
 
 -- ---- what an item leaves
 

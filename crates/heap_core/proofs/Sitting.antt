@@ -1,17 +1,16 @@
 -- The laws of the clients of a heap, and that the clients of a new one rest.
-use Rattle.heap_core.proofs.Words.{◌≡◌, ℕ, ◌+◌, ◌<◌, ◌≤◌, ◌==◌, true, false, cond, List, [], All, refl, sym, ap, subst, arith, suc, zero, get_or, replicate, count_by, range_with_len, nat_tests, All-nil, absent_space, first_space, Mine, mine, Held, no_record, opening_records, mine_in, Record, opening_space, OpeningSits, is_region, is_in, cases_lt, inl, inr, rules, ◌≢◌, ◌*◌, ◌&&◌, ◌||◌, Bool, IsTrue, ◌∷◌, Option, None, Some, length, max, ◌∙◌, lt-ltb, list_any, get_or-set_same, All-cons, sum_by-cons, Publish, holds_at, is_live, emptied_by_op, room_after, room_of, not_holding, Request, Flush, Wish, Then, Change, TurnPoint, Filling, Looking, Landing, Giving, Resetting, Destroying, Publishing, AskPoint, Skipping, Point, Turns, Asks, Tells, Next, Go, Op, Setting, Space, Part, Span, DeskFacts, BatchFacts, held_at, CallFacts, Alone, Flies, Gets, GivesBack, HasOffered, Idle, Knows, KnowsAsk, KnowsTurn, HasPair, is_held, KnowsNext, Ready, flying, needed_at, batch_goes, stage, batches-know, live_where, region_found, IsArenas, record_after, record_at, room_in, CanTurn, IsIdle, after_turn, AimsSit, HasRegions, HoldersPublish, IsSeated, IsTheHand, Sits, SitsAt, Suits, SuitsAsk, SuitsChange, SuitsGet, SuitsThen, SuitsTurn, or-false}
-use Rattle.heap_core.proofs.Having.{IsKeyed, drop_over, drop_shaped}
-use Rattle.heap_core.proofs.Turned.{opening_at, past}
-pub use Rattle.heap_core.proofs.Begins.{starts-sit}
-pub use Rattle.heap_core.proofs.Turns.{asks-sit, others-sit, starves-sit, turns-sit}
-pub use Rattle.heap_core.proofs.Clients.{asks-lead_on}
+use Rattle.heap_core.proofs.Words.{AreArenas, ◌≡◌, ℕ, ◌+◌, ◌<◌, ◌≤◌, ◌==◌, true, false, cond, List, [], All, refl, sym, ap, subst, arith, suc, zero, get_or, replicate, count_by, range_with_len, nat_tests, All-nil, absent_space, first_space, Mine, mine, Held, no_record, opening_records, mine_in, Record, opening_space, OpeningSits, is_region, is_in, cases_lt, inl, inr, rules, ◌≢◌, ◌*◌, ◌&&◌, ◌||◌, Bool, IsTrue, ◌∷◌, Option, None, Some, length, max, ◌∙◌, lt-ltb, list_any, get_or-set_same, All-cons, sum_by-cons, Publish, holds_at, is_live, emptied_by_op, room_after, room_of, not_holding, Request, Flush, Wish, Then, Change, TurnPoint, Filling, Looking, Landing, Giving, Resetting, Destroying, Publishing, AskPoint, Skipping, Point, Turns, Asks, Tells, Next, Go, Op, Setting, Space, Part, Span, DeskFacts, BatchFacts, held_at, CallFacts, Alone, Flies, Gets, GivesBack, HasOffered, Idle, Knows, KnowsAsk, KnowsTurn, HasPair, is_held, KnowsNext, Ready, flying, needed_at, batch_goes, stage, batches-know, live_where, region_found, IsArenas, record_after, record_at, room_in, CanTurn, IsIdle, after_turn, AimsSit, HasRegions, HoldersPublish, IsSeated, IsTheHand, Sits, SitsAt, Suits, SuitsAsk, SuitsChange, SuitsGet, SuitsThen, SuitsTurn, or-false}
+use Rattle.sits.proofs.Having.{IsKeyed, drop_over, drop_shaped}
+use Rattle.heap_core.proofs.Turned.{opening_at}
 use Rattle.call_plan.proofs.Own.{Nothing}
-use Rattle.heap_core.proofs.Clients.{at_or_else, by_arena, sound_at}
-use Rattle.heap_core.proofs.Hands.{had_counts, hands_part, held_is}
-use Rattle.heap_core.proofs.Parting.{Parts}
-use Rattle.heap_core.proofs.Regions.{count_at, published_counts}
-use Rattle.heap_core.proofs.Settling.{Owns, any_region, count_in, counts_low, has_owns, is_ready, owns_has, single_in}
-use Rattle.heap_core.proofs.Turns.{count_else, count_here, still_bound, was_bound}
+use Rattle.heap_core.proofs.Clients.{asks-lead_on, asks-sit, known_is, sound_at, starts-sit}
+use Rattle.sits.proofs.Counting.{as_many}
+use Rattle.sits.proofs.Indexes.{at_or_else, by_arena, past}
+use Rattle.sits.proofs.Hands.{had_counts, hands_part, held_is}
+use Rattle.sits.proofs.Parting.{Parts}
+use Rattle.sits.proofs.Regions.{count_at, published_counts}
+use Rattle.sits.proofs.Settling.{Owns, any_region, count_in, counts_low, has_owns, is_ready, owns_has, single_in}
+use Rattle.sits.proofs.Turns.{count_else, count_here, still_bound, was_bound}
 
 -- ---- what suits a point doesn't hang on what is held
 
@@ -48,7 +47,7 @@ pub record Alike (m m' : Mine) : Type 0 where
 idle_again : (m m' : Mine) → Alike m m' → Idle m → Idle m'
 idle_again m m' alike idle = record { flights = alike.flights ∙ idle.flights; offers = alike.offers ∙ idle.offers }
 
-module _ (records : List Record) (c arena : ℕ) (desk : DeskFacts) (request : Request) (m : Mine) (owns : Owns records c [] desk) (alike : Alike m (mine_in records c arena)) (others : (i : ℕ) → i ≢ arena → Idle (mine_in records c i)) where
+module _ (records : List Record) (c arena : ℕ) (desk : DeskFacts) (request : Request) (m : Mine) (owns : Owns true records c [] desk) (alike : Alike m (mine_in records c arena)) (others : (i : ℕ) → i ≢ arena → Idle (mine_in records c i)) where
   abbrev m' : Mine
   m' = mine_in records c arena
 
@@ -110,7 +109,7 @@ module _ (records : List Record) (c arena : ℕ) (desk : DeskFacts) (request : R
 
 -- ---- a region that is held is published
 
-module _ (records : List Record) (c : ℕ) (region : Held) (desk : DeskFacts) (is : IsArenas records) (few : c < 32) (owns : Owns records c [] desk) (found : held_at region.addr desk ≡ Some region) where
+module _ (records : List Record) (c : ℕ) (region : Held) (desk : DeskFacts) (is : IsArenas records) (few : c < 32) (owns : Owns true records c [] desk) (found : held_at region.addr desk ≡ Some region) where
   abbrev op : Op
   op = Publish region.addr
 
@@ -123,11 +122,14 @@ module _ (records : List Record) (c : ℕ) (region : Held) (desk : DeskFacts) (i
   abbrev less : DeskFacts
   less = not_holding region.addr desk
 
+  known : AreArenas true records
+  known = known_is records is
+
   some : 0 < count_in records c region.arena region.addr region.class
   some = had_counts (count_in records c) desk region owns.hands (inl (region.addr, found)) owns.shaped
 
   low : region.arena < 32
-  low = counts_low records c region.arena region.addr region.class is some
+  low = counts_low records c region.arena region.addr region.class known some
 
   not_nothing : ¬ Nothing (mine c s)
   not_nothing nothing =
@@ -143,17 +145,17 @@ module _ (records : List Record) (c : ℕ) (region : Held) (desk : DeskFacts) (i
         kept = tt;
       }
 
-  owns_less : Owns rest c [] less
+  owns_less : Owns true rest c [] less
   owns_less =
       let parts : Parts desk less (region ∷ []) = record {
         less = λ f. omega (arith, drop_over f region.addr region desk found, sum_by-cons f region []);
         shaped = drop_shaped region.addr desk owns.shaped;
         arena = refl;
       } in
-      let bound = still_bound records c region.arena desk empty_request None is low owns op less (inl (refl, λ home. was_bound records c region.arena desk empty_request None is low owns home)) in record {
-        hands = hands_part (count_in records c) (count_in rest c) region.arena (region ∷ []) desk less (single_in records c is) owns.hands parts (All-cons (λ (q : Held). q.arena ≡ region.arena) region [] refl (All-nil (λ (q : Held). q.arena ≡ region.arena)))
-            (λ a k. count_here records c region.arena desk empty_request None is low owns op a k ∙ published_counts c region.addr a k s.regions ∙ ap (λ v. cond v 0 (count_at c a k s.regions)) (sym (or-false (region.addr == a))))
-            (λ i a k differ. count_else records c region.arena desk empty_request None is low owns op i a k differ);
+      let bound = still_bound records c region.arena desk empty_request None known low owns op less (inl (refl, λ home. was_bound records c region.arena desk empty_request None known low owns home)) in record {
+        hands = hands_part (count_in records c) (count_in rest c) region.arena (region ∷ []) desk less (single_in records c known) owns.hands parts (All-cons (λ (q : Held). q.arena ≡ region.arena) region [] refl (All-nil (λ (q : Held). q.arena ≡ region.arena)))
+            (λ a k. count_here records c region.arena desk empty_request None known low owns op a k ∙ published_counts c region.addr a k s.regions ∙ ap (λ v. cond v 0 (count_at c a k s.regions)) (sym (or-false (region.addr == a))))
+            (λ i a k differ. count_else records c region.arena desk empty_request None known low owns op i a k differ);
         shaped = parts.shaped;
         low = bound.0;
         bound = bound.1;
@@ -164,11 +166,11 @@ module _ (records : List Record) (c : ℕ) (region : Held) (desk : DeskFacts) (i
 
   -- what the client owns in any arena but for its regions
   alike : (i : ℕ) → Alike (mine_in records c i) (mine_in rest c i)
-  alike i = by_arena records region.arena (record_after (record_at records region.arena) c op None) (λ n (r : Record). Alike (mine_in records c n) (mine c r.space)) is low
+  alike i = by_arena records region.arena (record_after (record_at records region.arena) c op None) (λ n (r : Record). Alike (mine_in records c n) (mine c r.space)) is.number low
       (record { flights = refl; offers = refl; bound = refl; dying = refl }) (λ n other. record { flights = refl; offers = refl; bound = refl; dying = refl }) i
 
   more_room : (i : ℕ) → room_in records i c ≤ room_in rest i c
-  more_room i = by_arena records region.arena new (λ n (r : Record). room_in records n c ≤ room_of c r.rooms) is low here (λ n other. omega arith) i
+  more_room i = by_arena records region.arena new (λ n (r : Record). room_in records n c ≤ room_of c r.rooms) is.number low here (λ n other. omega arith) i
     where
       new : Record
       new = record_after (record_at records region.arena) c op None
@@ -254,7 +256,7 @@ none_cached (suc n) (suc k) = none_cached n k
 pub opening-sits : OpeningSits
 opening-sits c few = record {
   has = record {
-    hands = λ i a k. ap (count_by (is_region a k)) (opening_empty c i).regions;
+    hands = λ i a k. as_many (sym (ap (count_by (is_region a k)) (opening_empty c i).regions));
     keyed = All-nil IsKeyed;
     lists = refl;
     classed = λ k. subst (All (λ (r : Held). r.class ≡ k)) (sym (none_cached 41 k)) (All-nil (λ (r : Held). r.class ≡ k));

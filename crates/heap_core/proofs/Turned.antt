@@ -1,47 +1,21 @@
 -- What a turn in one of the arenas leaves of all of them.
-use Rattle.heap_core.proofs.Words.{inr, ◌≡◌, ℕ, ◌/◌, ◌<◌, ◌^◌, ◌==◌, Bool, true, false, cond, List, [], Option, Result, Ok, Err, OnOk, OnErr, length, nat_lt, map, slice_set, get_or, refl, sym, ◌∙◌, ap, subst, arith, IsTrue, list_any, range_with_len, nat_tests, same_number_lists, get_or-map-range_with_len, get_or-range_with_len, Journal, IsByIndex, get_or_default, get_or-set_other, get_or-set_same, length-map, length-set, map-set, set-get_or, get_or-map, any_counts, chunk_span, has_page, meets, op_stands, stands, step_of, all_stand, replay, absent_space, first_space, first_replays_are_good, absent_replays_are_good, both_true, KeptFacts, entry_of, Op, Space, Sound, AskFacts, AreRecorded, IsArenas, journal_of, no_record, opening_record, opening_records, record_after, record_at, spaces_of, Apart, owns_chunk, with_chunk_found, space_at, IsReplayed, Record, entries_of, opening_space, ◌≢◌, zero-add, cases_lt, inl}
-pub use Rattle.std.proofs.lemmas.List.{get_or_past as past}
-use Rattle.heap_core.proofs.Owning.{apart_turn, page_owned, at_or_else}
-
--- what a journal leaves is sound
-pub replayed_sound : (i : ℕ) (kept : List KeptFacts) (s : Space) → IsReplayed i kept s → Sound s
-replayed_sound i kept s is = subst Sound (sym is.space) (by (i == 0) refl)
-  where
-    by : (v : Bool) → (i == 0) ≡ v → Sound (replay (opening_space i) (entries_of kept))
-    by true e =
-        let first : opening_space i ≡ first_space = rw e refl in
-        subst (λ (o : Space). Sound (replay o (entries_of kept))) (sym first) (first_replays_are_good (entries_of kept) (subst (λ (o : Space). all_stand o (entries_of kept) ≡ true) first is.stand)).sound
-    by false e =
-        let none : opening_space i ≡ absent_space = rw e refl in
-        subst (λ (o : Space). Sound (replay o (entries_of kept))) (sym none) (absent_replays_are_good (entries_of kept) (subst (λ (o : Space). all_stand o (entries_of kept) ≡ true) none is.stand)).sound
+use Rattle.heap_core.proofs.Words.{AreApart, inr, ◌≡◌, ℕ, ◌/◌, ◌<◌, ◌^◌, ◌==◌, true, false, cond, List, [], Option, Result, Ok, Err, OnOk, OnErr, length, nat_lt, map, slice_set, get_or, refl, sym, ◌∙◌, ap, subst, arith, IsTrue, list_any, range_with_len, nat_tests, same_number_lists, get_or-map-range_with_len, get_or-range_with_len, Journal, IsByIndex, get_or_default, length-map, length-set, map-set, set-get_or, get_or-map, any_counts, chunk_span, has_page, meets, op_stands, stands, step_of, replay, absent_space, first_space, both_true, entry_of, Op, Space, Sound, AskFacts, AreRecorded, IsArenas, journal_of, no_record, opening_record, opening_records, record_after, record_at, spaces_of, Apart, owns_chunk, with_chunk_found, space_at, IsReplayed, Record, opening_space, zero-add, cases_lt, inl}
+use Rattle.heap_core.proofs.Owning.{apart_turn, page_owned}
+use Rattle.recorded_arena.proofs.Turning.{replayed_sound}
+use Rattle.sits.proofs.Indexes.{by_arena, past}
 
 -- the space of an arena is among the spaces at its index
 pub space_of_record : (records : List Record) (i : ℕ) → space_at (spaces_of records) i ≡ (record_at records i).space
 space_of_record records i = get_or-map (λ (r : Record). r.space) records i no_record
-
--- ---- the arena of a turn, and the others
-
-pub there_is : (records : List Record) (arena : ℕ) (new : Record) → IsArenas records → arena < 32 → record_at (slice_set records arena new) arena ≡ new
-there_is records arena new is there = get_or-set_same records arena new no_record (omega (arith, there, is.number))
-
-pub elsewhere_is : (records : List Record) (arena i : ℕ) (new : Record) → i ≢ arena → record_at (slice_set records arena new) i ≡ record_at records i
-elsewhere_is records arena i new other = get_or-set_other records arena i new no_record other
-
--- what is so of a value in each arena that a turn leaves alone, and of the one that it leaves in its own
-pub by_arena : (records : List Record) (arena : ℕ) (new : Record) (P : ℕ → Record → Type 0) → IsArenas records → arena < 32 → P arena new → ((i : ℕ) → i ≢ arena → P i (record_at records i)) →
-    (i : ℕ) → P i (record_at (slice_set records arena new) i)
-by_arena records arena new P is there own others i =
-    at_or_else (λ k. P k (record_at (slice_set records arena new) k)) i arena (λ same. subst (P arena) (sym (there_is records arena new is there)) own)
-    (λ other. subst (P i) (sym (elsewhere_is records arena i new other)) (others i other))
 
 -- an arena that may stand there leaves the arenas as they have to be
 pub arenas_set : (records : List Record) (arena : ℕ) (new : Record) → IsArenas records → arena < 32 → new.index ≡ (record_at records arena).index → length new.rooms ≡ 32 → IsReplayed new.index new.kept new.space →
     Apart (slice_set (spaces_of records) arena new.space) → IsArenas (slice_set records arena new)
 arenas_set records arena new is there index clients replayed apart = record {
   number = length-set records arena new ∙ is.number;
-  replayed = by_arena records arena new (λ i (r : Record). i < 32 → IsReplayed i r.kept r.space) is there (λ _. subst (λ (k : ℕ). IsReplayed k new.kept new.space) (index ∙ is.indexes arena there) replayed) (λ i _. is.replayed i);
-  indexes = by_arena records arena new (λ i (r : Record). i < 32 → r.index ≡ i) is there (λ _. index ∙ is.indexes arena there) (λ i _. is.indexes i);
-  clients = by_arena records arena new (λ i (r : Record). i < 32 → length r.rooms ≡ 32) is there (λ _. clients) (λ i _. is.clients i);
+  replayed = by_arena records arena new (λ i (r : Record). i < 32 → IsReplayed i r.kept r.space) is.number there (λ _. subst (λ (k : ℕ). IsReplayed k new.kept new.space) (index ∙ is.indexes arena there) replayed) (λ i _. is.replayed i);
+  indexes = by_arena records arena new (λ i (r : Record). i < 32 → r.index ≡ i) is.number there (λ _. index ∙ is.indexes arena there) (λ i _. is.indexes i);
+  clients = by_arena records arena new (λ i (r : Record). i < 32 → length r.rooms ≡ 32) is.number there (λ _. clients) (λ i _. is.clients i);
   apart = subst Apart (sym (map-set (λ (r : Record). r.space) records arena new)) apart;
 }
 
@@ -130,8 +104,7 @@ page_in_chunk : (page : ℕ) → has_page page (chunk_span (page / 512)) ≡ tru
 page_in_chunk page = grind (arith, nat_tests)
 
 -- no page is in extents of two arenas
-pub one_owner : (records : List Record) → IsArenas records → (page i j : ℕ) → list_any (λ p. has_page page p.span) (record_at records i).space.parts ≡ true →
-    list_any (λ p. has_page page p.span) (record_at records j).space.parts ≡ true → i ≡ j
+pub one_owner : (records : List Record) → IsArenas records → AreApart records
 one_owner records is page i j first second = is.apart (page / 512) i j (owned i first) (owned j second)
   where
     owned : (k : ℕ) → list_any (λ p. has_page page p.span) (record_at records k).space.parts ≡ true → owns_chunk (page / 512) (space_at (spaces_of records) k) ≡ true
@@ -149,7 +122,7 @@ pub recorded_turned : {A E : Type 0} (records : List Record) (arena : ℕ) (r : 
     IsArenas (slice_set records arena new) → AreRecorded (slice_set records arena new)
 recorded_turned records arena r old new is there at few same arenas = record {
   arenas = arenas;
-  few = by_arena records arena new (λ i (x : Record). i < 32 → length x.kept < 2 ^ 64) is.arenas there (λ _. here r few same) (λ i _. is.few i);
+  few = by_arena records arena new (λ i (x : Record). i < 32 → length x.kept < 2 ^ 64) is.arenas.number there (λ _. here r few same) (λ i _. is.few i);
 }
   where
     here : {A E : Type 0} (r : Result A E) → OnOk r (length new.kept < 2 ^ 64) → OnErr r (new ≡ old) → length new.kept < 2 ^ 64

@@ -1,35 +1,8 @@
 -- What is so of a client's call among the arenas of a heap, whoever takes a turn.
-use Rattle.std.specs.Prelude.{◌≡◌, ◌≢◌, ℕ, ◌<◌, ◌≤◌, false, IsTrue, List, Option}
-use Rattle.heap_core.specs.Words.{stands, IsKept, entry_of, opens, Op, Mine, mine, AskFacts, AnswersTo, Replied, Told, Point, Next, Go, Over, More, Gone, Ends, Nowhere, WantTurn, WantAsk, step, want, Idle, Knows, flying, needed_at}
-use Rattle.heap_core.specs.Arenas.{IsArenas, record_at, reply_in, room_in, spaces_of, records_turned}
+use Rattle.std.specs.Prelude.{◌≡◌, ◌≢◌, ℕ, ◌<◌, false, IsTrue, List, Option}
+use Rattle.heap_core.specs.Words.{stands, IsIdle, IsKept, entry_of, opens, Op, AskFacts, AnswersTo, Record, Replied, Told, Point, WantTurn, WantAsk, Waits, WaitsNext, record_at, records_turned, reply_in, room_in, step, want}
+use Rattle.heap_core.specs.Arenas.{IsArenas, spaces_of}
 use Rattle.heap_core.specs.Chunks.{with_chunk_found}
-use Rattle.heap_core.specs.Records.{Record}
-
--- what a client owns in an arena
-abbrev pub mine_in : List Record → ℕ → ℕ → Mine
-mine_in records c i = mine c (record_at records i).space
-
--- the client has nothing in flight and nothing offered in any arena
-abbrev pub IsIdle : List Record → ℕ → Type 0
-IsIdle records c = (i : ℕ) → Idle (mine_in records c i)
-
--- A client's call waits at a point of an arena: it knows there what it has to, has the room that it needs, and has nothing in
--- flight in any other arena.
-pub record Waits (records : List Record) (c arena : ℕ) (point : Point) : Type 0 where
-  pub there : arena < 32
-  pub knows : Knows (mine_in records c arena) point
-  pub elsewhere : (i : ℕ) → i ≢ arena → Idle (mine_in records c i)
-  pub room : needed_at (flying (mine_in records c arena)) point ≤ room_in records arena c
-
--- where a call goes next it waits again, or has nothing in flight: at its end, before its next batch, or where it goes over to
--- another arena, whose first point then knows all that it has to
-abbrev pub WaitsNext : List Record → ℕ → ℕ → Next → Type 0
-WaitsNext records c arena (Go point) = Waits records c arena point
-WaitsNext records c arena (Over index point) = IsIdle records c × ((m : Mine) → Idle m → Knows m point)
-WaitsNext records c arena More = IsIdle records c
-WaitsNext records c arena Gone = IsIdle records c
-WaitsNext records c arena (Ends answer) = IsIdle records c
-WaitsNext records c arena Nowhere = ⊥
 
 -- What a turn of a waiting call asks of its arena is so: it may stand with the chunk that is found, there is room for it, and
 -- the ask that it carries is at hand.

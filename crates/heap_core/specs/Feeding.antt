@@ -1,8 +1,8 @@
 -- A client, and its call as that is fed.
 use Rattle.std.specs.Prelude.{◌≡◌, ℕ, Option, IfSome}
-use Rattle.heap_core.specs.Words.{option_map, DeskFacts, Item, Answered, CallFacts, HasRoomToHold, moment_of, named_call, aimed, after}
+use Rattle.heap_core.specs.Words.{option_map, DeskFacts, Item, Answered, CallFacts, HasRoomToHold, moment_of, named_call, aimed, after, Seat, seat_of}
 use Rattle.heap_core.specs.declared.seats.Client.TheInside.{Inside}
-use Rattle.heap_core.specs.Seats.{Seat, answer_of, seat_of}
+use Rattle.heap_core.specs.Seats.{answer_of}
 
 -- what callers see of a client: its call has the regions named that go back next
 abbrev pub shown : Inside → Seat

@@ -1,13 +1,12 @@
 -- A heap, and what a step of a client does to it.
 use Rattle.std.specs.Prelude.{◌≡◌, ◌⊎◌, ℕ, true, false, List, [], ◌∷◌, ◌++◌, Option, None, Some, replicate, slice_set}
 use Rattle.space_model.specs.declared.entries.Op.TheVariants.{Publish}
-use Rattle.heap_core.specs.Words.{AskStep, Shelf, not_holding, Op, AskFacts, Held, held_at, Request, Item, Replied, Told, Starved, Answered, NoMemory, Next, Go, CallFacts, moment_of, aimed, taken_next, Moment, after, Want, WantTurn, WantAsk, is_marked, want}
+use Rattle.heap_core.specs.Words.{AskStep, Shelf, not_holding, Op, AskFacts, Held, held_at, Request, Item, Replied, Told, Starved, Answered, NoMemory, Next, Go, CallFacts, moment_of, aimed, taken_next, Moment, after, Want, WantTurn, WantAsk, is_marked, want, record_at, reply_in, records_turned, Record, Seat, seat_of}
 use Rattle.heap_core.specs.declared.heaps.Did.TheVariants.{Idle, Turn, Ask}
-use Rattle.heap_core.specs.Arenas.{opening_records, record_at, reply_in, spaces_of, records_turned}
+use Rattle.heap_core.specs.Arenas.{opening_records, spaces_of}
 use Rattle.heap_core.specs.Chunks.{with_chunk_found}
-use Rattle.heap_core.specs.Records.{Record}
 use Rattle.heap_core.specs.declared.heaps.Stepped.{Stepped}
-use Rattle.heap_core.specs.Seats.{Seat, answer_of, begun, first_seat, holder_of, seat_at, seat_of}
+use Rattle.heap_core.specs.Seats.{answer_of, begun, first_seat, holder_of, seat_at}
 
 -- What callers see of a heap: its arenas with their journals, its clients, and every ask so far with its answer.
 pub record HeapFacts : Type 0 where

@@ -6,7 +6,6 @@ pub mod Feeding
 pub mod Heaps
 pub mod Logs
 pub mod Owing
-pub mod Records
 pub mod Seats
 pub mod Sitting
 pub mod Stepping

@@ -1,10 +1,8 @@
 -- How many asks a client may make until its next turn that takes memory, and what is so of a heap's clients.
 use Rattle.std.specs.Prelude.{◌≡◌, ◌<◌, ◌≤◌, ℕ, ◌+◌, List, Option, None, Some, length, if◌then◌else◌}
-use Rattle.heap_core.specs.Words.{opens, Point, Turns, Asks, Tells, Next, Go, CallFacts, op_at}
-use Rattle.heap_core.specs.Arenas.{room_in}
+use Rattle.heap_core.specs.Words.{opens, Point, Turns, Asks, Tells, Next, Go, CallFacts, op_at, room_in, Record, Seat}
 use Rattle.heap_core.specs.Logs.{owed_to}
-use Rattle.heap_core.specs.Records.{Record}
-use Rattle.heap_core.specs.Seats.{Seat, seat_at}
+use Rattle.heap_core.specs.Seats.{seat_at}
 use Rattle.heap_core.specs.Sitting.{SeatSound}
 
 -- the asks that may come from a point on, where the client has so much room: one before each turn without memory, and one more,

@@ -1,11 +1,6 @@
 -- The clients of a heap: what each has, its open call, and how both change.
 use Rattle.std.specs.Prelude.{ℕ, false, List, [], Option, None, Some, is_some, replicate, slice_index_or}
-use Rattle.heap_core.specs.Words.{position, AskFacts, Held, DeskFacts, held_at, Request, Free, FreeForeign, Answered, Next, Go, CallFacts, ended_by, heard_next, Moment, begin}
-
--- A client of a heap: what it has, and its call while one is open.
-pub record Seat : Type 0 where
-  pub desk : DeskFacts
-  pub call : Option CallFacts
+use Rattle.heap_core.specs.Words.{position, AskFacts, Held, DeskFacts, held_at, Request, Free, FreeForeign, Answered, CallFacts, Seat, ended_by, heard_next, Moment, begin}
 
 -- what a client has before its first call: it allocates from arena 0, has its cache off, and has no region
 abbrev pub first_desk : DeskFacts
@@ -18,15 +13,6 @@ first_seat = record { desk = first_desk; call = None }
 -- the client with an index
 abbrev pub seat_at : List Seat → ℕ → Seat
 seat_at seats c = slice_index_or seats c first_seat
-
--- the call of a client, while it waits at a point
-abbrev pub open_call : ℕ → Moment → Next → Option CallFacts
-open_call c at (Go point) = Some (record { client = c; request = at.request; stage = at.stage })
-open_call c at next = None
-
--- a client whose call came to this moment
-abbrev pub seat_of : ℕ → Moment → Seat
-seat_of c at = record { desk = at.desk; call = open_call c at at.stage.next }
 
 -- the ask whose answer an open call takes in next, where it does
 abbrev pub heard_by : Option CallFacts → Option AskFacts

@@ -1,12 +1,11 @@
 -- What the parts of a step of a client rest on.
 use Rattle.std.specs.Prelude.{◌≡◌, ◌≢◌, ◌+◌, ◌<◌, ◌≤◌, ℕ, true, false, List, Option, None, Some, Result, Ok, Err, IfOk, IsOk, IsSomeAnd, OnOk, OnErr}
 use Rattle.space_model.specs.declared.entries.Op.TheVariants.{Publish}
-use Rattle.heap_core.specs.Words.{Op, Reply, AskFacts, Held, Item, Replied, Starved, Next, Go, Need, CallFacts, NeedIs, taken_next, Want, WantTurn, WantAsk, is_marked, want, Turn, opens}
-use Rattle.heap_core.specs.Arenas.{reply_in, room_in, spaces_of, records_turned}
+use Rattle.heap_core.specs.Words.{Op, Reply, AskFacts, Held, Item, Replied, Starved, Next, Go, Need, CallFacts, NeedIs, taken_next, Want, WantTurn, WantAsk, is_marked, want, Turn, opens, reply_in, room_in, records_turned, Record}
+use Rattle.heap_core.specs.Arenas.{spaces_of}
 use Rattle.heap_core.specs.Chunks.{with_chunk_found}
 use Rattle.heap_core.specs.Clients.{after_turn}
 use Rattle.heap_core.specs.Logs.{owed_to}
-use Rattle.heap_core.specs.Records.{Record}
 use Rattle.heap_core.specs.Heaps.{HeapFacts, holder_for, parted, region_for}
 
 -- A turn with the ask whose answer its operation carries, where it carries one.

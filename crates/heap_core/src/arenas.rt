@@ -1,14 +1,13 @@
 //! The arenas of a heap.
 
 ghost use Rattle.std.specs.Prelude.{[], ◌≡◌, ◌≢◌, ◌+◌, ◌<◌, ◌≤◌, ◌^◌, ℕ, false, true, length, map, vec_capacity, IsTrue, IsOk, IfOk, IfSome, OnOk, OnErr};
-ghost use Rattle.heap_core.specs.Words.{list_any, position, has_page, stands, mine, IsKept, all_rooms, entry_of, opens};
-ghost use Rattle.heap_core.specs.Arenas.{IsArenas, journal_of, opening_records, record_at, reply_in, room_in, spaces_of, records_turned};
-ghost use Rattle.heap_core.specs.Records.{IsReplayed, most_room};
+ghost use Rattle.heap_core.specs.Words.{list_any, position, has_page, stands, mine, IsKept, all_rooms, entry_of, opens, record_at, reply_in, room_in, records_turned, IsReplayed, most_room};
+ghost use Rattle.heap_core.specs.Arenas.{IsArenas, journal_of, opening_records, spaces_of};
 ghost use Rattle.heap_core.specs.Chunks.{Apart, met_by_alloc, met_by_dalloc, met_in, others_of, owns_chunk, with_chunk_found};
 
-use crate::records::Recorded;
 use arena_core::Arena;
 use hook_api::{Asked, Journal, Journals};
+use recorded_arena::Recorded;
 use space_model::{Answer, Ask, CHUNK_PAGES, Heard, Op, Reply, Span};
 use std::alloc::{AllocError as NoMemory, Global};
 use std::marker::Model;
@@ -27,7 +26,7 @@ pub struct Arenas {
 
 impl Model for Arenas {
     ghost use Rattle.std.specs.Prelude.{List};
-    ghost use Rattle.heap_core.specs.Records.{Record};
+    ghost use Rattle.recorded_arena.specs.Records.{Record};
     ghost use Rattle.heap_core.specs.Arenas.{AreRecorded};
 
     ghost Value = { List Record };

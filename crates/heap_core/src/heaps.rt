@@ -1,8 +1,9 @@
 //! A heap.
 
-ghost use Rattle.std.specs.Prelude.{◌≡◌, ◌<◌, ◌/◌, ◌^◌, ℕ, None, length, map, is_some, false, IfOk, IfSome, IsOk, OnOk, OnErr};
-ghost use Rattle.heap_core.specs.Words.{list_any, position, counts_of, has_page, is_live, takes_memory, IsInRange, held_at};
-ghost use Rattle.heap_core.specs.Arenas.{IsArenas, journal_of, record_at, setting_of, where_live};
+ghost use Rattle.std.specs.Prelude.{◌≡◌, ◌<◌, ◌≤◌, ◌/◌, ◌^◌, ℕ, None, length, map, is_some, false, IfOk, IfSome, IsOk, OnOk, OnErr};
+ghost use Rattle.heap_core.specs.Words.{list_any, position, counts_of, has_page, is_live, takes_memory, IsInRange, held_at, record_at};
+ghost use Rattle.space_model.specs.Span.{max_series};
+ghost use Rattle.heap_core.specs.Arenas.{IsArenas, grow_limit_of, journal_of, setting_of, where_live};
 ghost use Rattle.heap_core.specs.Heaps.{opening_heap, started};
 ghost use Rattle.heap_core.specs.Logs.{last_asked};
 ghost use Rattle.heap_core.specs.Seats.{answer_of, asked_for, begun, free_request, held_by, holder_of, seat_at};
@@ -217,6 +218,15 @@ impl Heap {
         let arena = self.live_arena(arena)?;
         let (dirty_ms, muzzy_ms) = arena.times();
         Some((arena.box_no(), dirty_ms, muzzy_ms))
+    }
+
+    /// The most chunks by which the arena with an index grows where no request needs so many, from 1 to 16384, where it is live
+    /// (`arena.<i>.retain_grow_limit` in the manual, there in bytes).
+    pub fn grow_limit(&self, arena: u32) -> Option<u64>
+        ensures limit { result ≡ where_live grow_limit_of (record_at self.now.records arena).space }
+        ensures bound { IfSome result (λ chunks. chunks ≤ max_series) }
+    {
+        Some(self.live_arena(arena)?.grow_limit())
     }
 
     /// The client that holds a region at an address, if one does. One that is cached or in hand is held by nobody in this sense.

@@ -5,7 +5,6 @@ mod arenas;
 mod heaps;
 mod laws;
 mod logs;
-mod records;
 mod seats;
 mod steps;
 

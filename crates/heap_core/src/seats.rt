@@ -1,8 +1,8 @@
 //! A client of a heap: what it has, and its call while one is open.
 
 ghost use Rattle.std.specs.Prelude.{◌≡◌, IfSome, IfNone, IfOk, IsOk, IsSomeAnd, None, Some, OnOk, OnErr, false, true, is_some};
-ghost use Rattle.heap_core.specs.Words.{option_and_then, DeskFacts, held_at, not_holding, moment_of, takes_memory, lent, Goes, ended_by, taken_next, after, begin};
-ghost use Rattle.heap_core.specs.Seats.{answer_of, first_seat, heard_by, open_call, seat_of};
+ghost use Rattle.heap_core.specs.Words.{option_and_then, DeskFacts, held_at, not_holding, moment_of, takes_memory, lent, Goes, ended_by, taken_next, after, begin, open_call, seat_of};
+ghost use Rattle.heap_core.specs.Seats.{answer_of, first_seat, heard_by};
 ghost use Rattle.heap_core.specs.Feeding.{FedTo, aimed_seat};
 ghost use Rattle.heap_core.specs.Stepping.{Needs, TakesAt};
 
@@ -21,7 +21,7 @@ pub struct Client {
 }
 
 impl Model for Client {
-    ghost use Rattle.heap_core.specs.Seats.{Seat};
+    ghost use Rattle.sits.specs.Seats.{Seat};
 
     ghost Value = { Seat };
 

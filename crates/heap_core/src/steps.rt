@@ -1,24 +1,23 @@
 //! A step of a client of a heap: one turn or one ask for its open call.
 
 ghost use Rattle.std.specs.Prelude.{◌≡◌, ◌≢◌, ◌+◌, ◌<◌, ◌≤◌, ℕ, None, Some, false, true, length, IfNone, IfOk, IfSome, IsOk, IsSomeAnd, OnOk, OnErr};
-ghost use Rattle.heap_core.specs.Words.{Shelf, all_rooms, opens, held_at, lent};
+ghost use Rattle.heap_core.specs.Words.{Shelf, all_rooms, opens, held_at, lent, reply_in, room_in, record_at, most_room};
 ghost use Rattle.space_model.specs.declared.entries.Op.TheVariants.{Publish};
-ghost use Rattle.heap_core.specs.Arenas.{reply_in, room_in, record_at, spaces_of};
+ghost use Rattle.heap_core.specs.Arenas.{spaces_of};
 ghost use Rattle.heap_core.specs.Clients.{CanTurn, after_turn};
 ghost use Rattle.heap_core.specs.Feeding.{aimed_seat};
 ghost use Rattle.heap_core.specs.Heaps.{IsStep, IsSure, parted, seated};
 ghost use Rattle.heap_core.specs.Logs.{owed_to};
-ghost use Rattle.heap_core.specs.Records.{most_room};
 ghost use Rattle.heap_core.specs.Seats.{seat_at};
 ghost use Rattle.heap_core.specs.Stepping.{HolderIs, IsPublished, MadeTurn, Needs, StarvesAt, TakesAt, item_of, replied_by, with_ask};
 
 use crate::Arenas;
 use crate::heaps::{Did, Heap, Stepped, holder_of};
 use crate::logs::AskLog;
-use crate::records::places_for;
 use arena_core::Arena;
 use call_plan::{Answered, Item, Need, Turn};
 use hook_api::{Asked, ExtentHooks, HookShelf};
+use recorded_arena::places_for;
 use space_model::{Ask, Op, Reply};
 use std::alloc::{AllocError as NoMemory, Global};
 use thread_cache::Held;

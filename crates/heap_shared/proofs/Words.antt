@@ -49,7 +49,17 @@ pub use Rattle.turn_lock.specs.declared.machine.Machine.{Ghosts}
 pub use Rattle.turn_lock.specs.declared.view.Turn.{Turn}
 pub use mathlib.Core.Logic.{dite}
 pub use native.Mathlib.Decide.{ℕ_discrete}
-pub use Rattle.heap_shared.specs.Claims.{Claimed, IsElsewhere, IsBefore, Released, found_in, granted_span, is_met_by, is_met, refused_span, touched, wanted, with_found}
-pub use Rattle.heap_shared.specs.Shared.{Facts, Logs, MayStand, after_entry, facts_of, owned_by, Owned}
+pub use Rattle.heap_shared.specs.Claims.{Claimed, IsElsewhere, IsBefore, Released, found_in, granted_span, is_met_by, is_met, refused_span, touched, wanted}
+pub use Rattle.call_plan.specs.Laws.{with_found}
+pub use Rattle.heap_shared.specs.Shared.{Facts, IsSure, Logs, MayStand, after_deed, after_entry, facts_of, owned_by, Owned}
 pub use Rattle.heap_shared.specs.Turns.{Turned, space_of_history}
+pub use Rattle.deeds.specs.Dids.{deed_of}
+pub use Rattle.deeds.specs.declared.deeds.Deed.{Deed}
+pub use Rattle.deeds.specs.declared.deeds.Doing.{Doing}
+pub use Rattle.deeds.specs.declared.deeds.Told.{Told}
+pub use Rattle.heap_shared.specs.Touches.{touched_with}
+pub use Rattle.hook_api.specs.Kept.{IsKept, KeptFacts, heard_of}
+pub use Rattle.hook_api.specs.Asked.{AskFacts}
+pub use Rattle.recorded_arena.specs.Records.{IsReplayed, Record, record_after}
+pub use Rattle.recorded_arena.proofs.Turning.{replayed_sound}
 pub use Rattle.heap_shared.specs.declared.claims.Claims.{Claims}

@@ -1,3 +1,4 @@
 pub mod Claims
 pub mod Shared
+pub mod Touches
 pub mod Turns

@@ -2,7 +2,10 @@
 ghost use Rattle.std.specs.Prelude.{◌≡◌, ℕ, Option, Some};
 ghost use Rattle.std.specs.Arc.{arc_value};
 ghost use Rattle.chunk_table.specs.Tables.{share_of, IsSeatOf};
-ghost use Rattle.heap_shared.specs.Claims.{Claimed, IsElsewhere, OwnsMet, Released, found_in, granted_span, high_chunk, low_chunk, refused_span, touched, wanted, with_found};
+ghost use Rattle.call_plan.specs.Laws.{with_found};
+ghost use Rattle.heap_shared.specs.Claims.{Claimed, IsElsewhere, OwnsMet, Released, found_in, granted_span, high_chunk, low_chunk, refused_span, touched, wanted};
+ghost use Rattle.heap_shared.specs.Touches.{touched_with};
+ghost use Rattle.space_model.specs.declared.entries.Reply.{Reply};
 
 use arena_core::Arena;
 use chunk_table::{ChunkSeat, ChunkTable, Claim};
@@ -64,20 +67,9 @@ fn wanted(op: &Op) -> Option<Span>
     }
 }
 
-/// The span whose chunks are released after an operation, unless an extent meets them.
-fn touched(op: &Op, reply: &Reply) -> Option<Span>
-    ensures { result ≡ touched op.now reply.now }
-{
-    match (op, reply) {
-        (Op::Offer { span }, _) => Some(*span),
-        (Op::DestroyTake, Reply::Doomed { span, .. }) => Some(*span),
-        _ => wanted(op),
-    }
-}
-
 /// The operation with the chunk that was found in another arena, if one was.
 fn with_found(op: Op, found: Option<u64>) -> Op
-    ensures { result ≡ with_found op found }
+    ensures { result ≡ with_found found op }
 {
     match op {
         Op::GrowDone { heard, .. } => Op::GrowDone { heard, found },
@@ -124,7 +116,7 @@ impl Claims {
     pub fn settle(&mut self, arena: &Arena, op: Op) -> Op
         requires owned { OwnsMet self.old.seat arena.now.space }
         ensures table { arc_value self.new.table ≡ arc_value self.old.table }
-        ensures op { (chunk : Option ℕ) × (result ≡ with_found op chunk) × IsElsewhere (wanted op) arena.now.space chunk }
+        ensures op { (chunk : Option ℕ) × (result ≡ with_found chunk op) × IsElsewhere (wanted op) arena.now.space chunk }
         ensures claimed { Claimed (wanted result) (found_in result) (share_of self.old.seat) (share_of self.new.seat) }
     {
         let found = match wanted(&op) {
@@ -134,13 +126,44 @@ impl Claims {
         with_found(op, found)
     }
 
-    /// Releases the chunks of an operation that no extent of the arena meets after its step.
-    pub fn release(&mut self, arena: &Arena, op: &Op, reply: &Reply)
-        ensures table { arc_value self.new.table ≡ arc_value self.old.table }
-        ensures released { Released (touched op.now reply.now) arena.now.space (share_of self.old.seat) (share_of self.new.seat) }
+    /// What an operation touches, as far as that is known before its reply.
+    pub fn touch(op: &Op) -> Touch
+        ensures { (reply : Reply) → touched_with result reply ≡ touched op.now reply }
     {
-        if let Some(span) = touched(op, reply) {
+        match op {
+            Op::Offer { span } => Touch::Known(Some(*span)),
+            Op::DestroyTake => Touch::Doomed,
+            _ => Touch::Known(wanted(op)),
+        }
+    }
+
+    /// Releases the chunks of a span that no extent of the arena meets.
+    pub fn release(&mut self, arena: &Arena, span: Option<Span>)
+        ensures table { arc_value self.new.table ≡ arc_value self.old.table }
+        ensures released { Released span arena.now.space (share_of self.old.seat) (share_of self.new.seat) }
+    {
+        if let Some(span) = span {
             self.release_span(arena, span);
+        }
+    }
+}
+
+/// The span whose chunks are released after an operation, or that its reply tells it.
+#[derive(Clone, Copy)]
+pub enum Touch {
+    Known(Option<Span>),
+    Doomed,
+}
+
+impl Touch {
+    /// The span, by the reply.
+    pub fn with(&self, reply: &Reply) -> Option<Span>
+        ensures { result ≡ touched_with self.now reply.now }
+    {
+        match (self, reply) {
+            (Touch::Known(span), _) => *span,
+            (Touch::Doomed, Reply::Doomed { span, .. }) => Some(*span),
+            _ => None,
         }
     }
 }

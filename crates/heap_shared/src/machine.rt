@@ -1,94 +1,93 @@
 //! The machine of an arena: an operation of a client is a step.
-ghost use Rattle.std.specs.Prelude.{◌≡◌, ◌⊎◌, [], length, replicate, OnErr, IfOk};
+ghost use Rattle.std.specs.Prelude.{◌≡◌, [], length, OnErr, IfOk, IsOk, false};
 ghost use Rattle.std.specs.Arc.{arc_value};
 ghost use Rattle.chunk_table.specs.Tables.{owned, IsSeatOf};
+ghost use Rattle.arena_core.specs.Arenas.{opens};
 ghost use Rattle.heap_shared.specs.Claims.{OwnsMet};
-ghost use Rattle.heap_shared.specs.Shared.{Logs, MayStand, after_entry, facts_of, owned_by};
-ghost use Rattle.space_model.specs.Opening.{absent_space, first_space};
+ghost use Rattle.heap_shared.specs.Shared.{Logs, MayStand, after_entry, owned_by, opening_facts};
 
 use crate::claims::Claims;
-use arena_core::Arena;
 use chunk_table::{ChunkSeat, ChunkTable};
-use space_model::{Entry, Op, Reply, Space};
+use deeds::{Deed, Doing, Told};
+use hook_api::Journal;
+use recorded_arena::Recorded;
+use space_model::Reply;
 use std::alloc::{AllocError as NoMemory, Global};
 use std::marker::Model;
 use std::snapshot::Snapshot;
 use std::sync::Arc;
 use turn_lock::Machine;
 
-/// An arena, its journal, and its seat of the table that all arenas share.
+/// An arena with its journal, and its seat of the table that all arenas share.
 #[derive(Drop)]
 pub struct SharedArena {
-    arena: Arena,
-    journal: Vec<Entry>,
+    recorded: Recorded,
     claims: Claims,
 }
 
 impl Model for SharedArena {
     ghost use Rattle.std.specs.Arc.{arc_value};
     ghost use Rattle.heap_shared.specs.Shared.{Facts, facts_of};
-    ghost use Rattle.space_model.specs.Sound.{Sound};
     ghost use Rattle.heap_shared.specs.Claims.{OwnsMet};
 
     ghost Value = { Facts };
 
-    ghost view = { λ s. facts_of s.arena s.journal.items (arc_value s.claims.table) };
+    ghost view = { λ s. facts_of s.recorded (arc_value s.claims.table) };
 
-    ghost invariant = { λ s. Sound s.arena.space × OwnsMet s.claims.seat s.arena.space };
+    ghost invariant = { λ s. OwnsMet s.claims.seat s.recorded.space };
 }
 
 impl SharedArena {
-    /// An arena without a journal: arena 0 as it is at the start, or an index without an arena. It claims no chunk yet.
+    /// The arena with an index as it is at the start. It claims no chunk yet.
     pub fn new(
         alloc: Global,
-        space: Space,
+        index: u32,
         table: Arc<ChunkTable, Global>,
         seat: ChunkSeat,
     ) -> Result<SharedArena, NoMemory>
-        requires space { (space ≡ absent_space) ⊎ (space ≡ first_space) }
         requires seat { IsSeatOf (arc_value table) seat }
         requires none { owned seat ≡ [] }
-        ensures { IfOk result (λ s. s ≡ facts_of (record { space = space; rooms = replicate 32 0 }) [] (arc_value table)) }
+        ensures { IfOk result (λ s. s ≡ opening_facts index (arc_value table)) }
     {
         Ok(SharedArena {
-            arena: Arena::new(alloc, space)?,
-            journal: Vec::new(alloc),
+            recorded: Recorded::new(alloc, index)?,
             claims: Claims { table, seat },
         })
     }
 
-    /// How many entries its journal has.
-    pub fn entries(&self) -> usize
-        ensures { result ≡ length self.now.entries }
+    /// The journal and the seat, once no turn is to come. It owns just the chunks that extents of the arena meet.
+    pub fn into_parts(self) -> (Journal, ChunkSeat)
+        ensures index { result.0.index ≡ self.arena.index }
+        ensures kept { result.0.kept ≡ self.arena.kept }
+        ensures table { IsSeatOf self.table result.1 }
+        ensures owned { OwnsMet result.1 self.arena.space }
     {
-        self.journal.len()
-    }
-
-    /// The seat, once no turn is to come. It owns just the chunks that extents of the arena meet.
-    pub fn into_seat(self) -> ChunkSeat
-        ensures table { IsSeatOf self.table result }
-        ensures owned { OwnsMet result self.space }
-    {
-        let claims = self.claims;
-        claims.seat
+        let SharedArena { recorded, claims } = self;
+        let Claims { seat, .. } = claims;
+        (recorded.into_journal(), seat)
     }
 
     /// The step of an operation that may stand by what belongs to its client. The chunks that it takes are claimed in it,
     /// and those that no extent meets after it are released.
-    fn take(&mut self, client: u32, op: Op) -> Result<(Snapshot<Entry>, Reply), NoMemory>
-        requires may { MayStand (owned_by self.old client) op }
-        ensures entry { IfOk result (λ r. Logs self.old client op r.0) }
+    fn take(&mut self, client: u32, doing: Doing) -> Result<(Snapshot<Deed>, Told), NoMemory>
+        requires may { MayStand (owned_by self.old client) doing }
+        ensures entry { IfOk result (λ r. Logs self.old client doing r.0) }
         ensures after { IfOk result (λ r. (self.new, r.1) ≡ after_entry self.old r.0) }
         ensures unchanged { OnErr result (self.new ≡ self.old) }
+        ensures sure { opens doing.op ≡ false → IsOk result }
     {
-        self.journal.reserve(1)?;
-        let op = self.claims.settle(&self.arena, op);
-        let entry = Entry { client, op };
-        let reply = self.arena.step(client, &entry.op)?;
-        self.claims.release(&self.arena, &entry.op, &reply);
-        let made = Snapshot::of(&entry);
-        self.journal.push_reserved(entry);
-        Ok((made, reply))
+        let Doing { op, asked } = doing;
+        let op = self.claims.settle(self.recorded.arena(), op);
+        let mut deed = Deed { client, op, asked };
+        let made = Snapshot::of(&deed);
+        let touch = Claims::touch(&deed.op);
+        let mut reply = Reply::Noted;
+        self.recorded
+            .turn(client, &mut deed.op, &deed.asked, &mut reply)?;
+        let arena = self.recorded.arena();
+        self.claims.release(arena, touch.with(&reply));
+        let box_no = arena.box_no();
+        Ok((made, Told { reply, box_no }))
     }
 }
 
@@ -111,15 +110,16 @@ pub struct ArenaTurns;
 impl Machine for ArenaTurns {
     ghost use Rattle.std.specs.Prelude.{◌∷◌, [], map, refl};
     ghost use Rattle.std.proofs.lemmas.List.{map-append};
-    ghost use Rattle.heap_shared.specs.Shared.{no_facts, snap, Logs, MayStand, after_entry, owned_by};
+    ghost use Rattle.heap_shared.specs.Shared.{opening_facts, snap, IsSure, Logs, MayStand, after_entry, owned_by};
+    ghost use Rattle.arena_core.specs.Arenas.{entry_of};
 
     type State = SharedArena;
 
-    type Op = Op;
+    type Op = Doing;
 
-    type Entry = Snapshot<Entry>;
+    type Entry = Snapshot<Deed>;
 
-    type Reply = Reply;
+    type Reply = Told;
 
     type Own = OwnedBy;
 
@@ -131,23 +131,23 @@ impl Machine for ArenaTurns {
 
     ghost may = { MayStand };
 
-    ghost sure = { λ w op. ⊥ };
+    ghost sure = { IsSure };
 
-    ghost kept = { λ s. map snap s.entries };
+    ghost kept = { λ s. map snap s.arena.kept };
 
-    ghost start = { λ s. no_facts s.table };
+    ghost start = { λ s. opening_facts s.arena.index s.table };
 
-    ghost keeps = { λ s n op e l. map-append snap s.entries (e.value ∷ []) };
+    ghost keeps = { λ s n op e l. map-append snap s.arena.kept (record { entry = entry_of e.value.client e.value.op; asked = e.value.asked } ∷ []) };
 
     ghost starts = { λ s n op e l. refl };
 
-    ghost others = { λ s n op e k l other. l.1 k other };
+    ghost others = { λ s n op e k l other. l.others k other };
 
     fn step(
         state: &mut SharedArena,
         number: u32,
-        op: Op,
-    ) -> Result<(Snapshot<Entry>, Reply), NoMemory> {
+        op: Doing,
+    ) -> Result<(Snapshot<Deed>, Told), NoMemory> {
         state.take(number, op)
     }
 }

@@ -81,7 +81,7 @@ fn journals_have_the_entries_of_their_arena(rt: HostRuntime) -> Result<(), Fail>
 }
 
 /// A shelf of 32 boxes, each of which places ever higher ranges.
-fn rising(alloc: Global) -> Result<HookShelf<RisingHooks>, NoMemory> {
+pub(crate) fn rising(alloc: Global) -> Result<HookShelf<RisingHooks>, NoMemory> {
     let mut boxes = Vec::new(alloc);
     while boxes.len() < 32 {
         boxes.push(RisingHooks::new())?;

@@ -1,13 +1,16 @@
 //! Clients take turns in arenas over one table of chunks, from one thread.
-ghost use Rattle.std.specs.Prelude.{◌≡◌, ◌<◌, [], length, true, IfOk};
+ghost use Rattle.std.specs.Prelude.{◌≡◌, ◌<◌, [], true, IfOk};
 ghost use Rattle.std.specs.Arc.{arc_value};
 ghost use Rattle.chunk_table.specs.Tables.{arena_count, owned, IsSeatOf};
 ghost use Rattle.turn_lock.specs.Locks.{first, held, number, own_known, seat_count, spare, IsPassOf};
 ghost use Rattle.heap_shared.specs.Shared.{after_entry, owned_by};
 
+use crate::tests::heaps::rising;
 use chunk_table::{ChunkSeat, ChunkTable};
+use deeds::Doing;
 use heap_shared::{ArenaTurns, SharedArena, turn};
-use space_model::{Answer, Ask, Heard, Op, Reply, Space, Span, Why};
+use hook_api::{HookShelf, Journal, RisingHooks};
+use space_model::{Ask, Op, Reply, Span, Why};
 use std::alloc::{AllocError as NoMemory, Global};
 use std::process::Abort;
 use std::sync::{Arc, Wait};
@@ -48,19 +51,18 @@ fn locked(
     ensures pass { IfOk result (λ r. IsPassOf r.0 r.1 × (number r.1 ≡ 0)) }
     ensures clients { IfOk result (λ r. (seat_count r.0 ≡ clients) × (held r.1 ≡ clients)) }
     ensures bound { IfOk result (λ r. (own_known after_entry owned_by r.0 r.1).has.bound ≡ true) }
-    ensures rooms { IfOk result (λ r. length (first r.0).rooms ≡ 32) }
 {
-    let arena = SharedArena::new(alloc, Space::first(alloc), Arc::try_clone(table)?, seat)?;
+    let arena = SharedArena::new(alloc, 0, Arc::try_clone(table)?, seat)?;
     Lock::new(alloc, arena, clients)
 }
 
-/// The seat of the arena under a lock with one client.
-fn seat_of(alloc: Global, lock: Lock, pass: Client) -> ChunkSeat
+/// The journal and the seat of the arena under a lock with one client.
+fn parts_of(alloc: Global, lock: Lock, pass: Client) -> (Journal, ChunkSeat)
     requires lock { IsPassOf lock pass }
     requires alone { held pass ≡ seat_count lock }
-    ensures { IsSeatOf (first lock).table result }
+    ensures { IsSeatOf (first lock).table result.1 }
 {
-    lock.close(pass, Passes::new(alloc)).into_seat()
+    lock.close(pass, Passes::new(alloc)).into_parts()
 }
 
 /// Looks a hundred times for an extent of five pages, of which there is none.
@@ -70,35 +72,41 @@ fn look_often<R: Wait>(rt: &R, lock: &Lock, mut pass: Client) -> Result<Client, 
     ensures { IfOk result (λ p. IsPassOf lock.now p × (number p ≡ number pass) × (spare p ≡ spare pass)) }
 {
     for _ in 0..100 {
-        turn(rt, lock, &mut pass, Op::Look { pages: 5, align: 1 })?;
+        let op = Op::Look { pages: 5, align: 1 };
+        turn(rt, lock, &mut pass, Doing { op, asked: None })?;
     }
     Ok(pass)
 }
 
-/// A client asks for the counts, which gives it room, and has its arena grow by chunk 1. What speaks against that, if
-/// something does.
-fn grow<R: Wait>(rt: &R, lock: &Lock, pass: &mut Client) -> Result<Option<Why>, NoMemory>
+/// A client asks for the counts, which gives it room, and has its arena grow by the chunk that box 0 of the shelf places. What
+/// speaks against that, if something does.
+fn grow<R: Wait>(
+    rt: &R,
+    shelf: &mut HookShelf<RisingHooks>,
+    lock: &Lock,
+    pass: &mut Client,
+) -> Result<Option<Why>, NoMemory>
     requires lock { IsPassOf lock.now pass.old }
     requires client { number pass.old < 32 }
     requires bound { (own_known after_entry owned_by lock.now pass.old).has.bound ≡ true }
-    requires rooms { length (first lock.now).rooms ≡ 32 }
     ensures lock { IsPassOf lock.now pass.new }
     ensures numbers { (number pass.new ≡ number pass.old) × (spare pass.new ≡ spare pass.old) }
 {
-    turn(rt, lock, pass, Op::Counts)?;
+    let op = Op::Counts;
+    turn(rt, lock, pass, Doing { op, asked: None })?;
     let ask = Ask::Alloc {
         at: None,
         pages: 512,
         align: 512,
         commit: true,
     };
-    let answer = Answer::Placed {
-        first: 512,
-        committed: true,
-        zeroed: true,
+    let asked = shelf.ask(0, ask);
+    let op = Op::GrowDone {
+        heard: asked.heard(),
+        found: None,
     };
-    let heard = Heard { ask, answer };
-    match turn(rt, lock, pass, Op::GrowDone { heard, found: None })? {
+    let asked = Some(asked);
+    match turn(rt, lock, pass, Doing { op, asked })?.reply {
         Reply::Bad(why) => Ok(Some(why)),
         _ => Ok(None),
     }
@@ -116,8 +124,8 @@ fn two_clients_take_turns(rt: HostRuntime) -> Result<(), Fail> {
     let mut others = Passes::new(alloc);
     others.reserve(1)?;
     others.push(second);
-    let arena = lock.close(first, others);
-    assert_eq!(rt; arena.entries(), 300);
+    let (journal, _) = lock.close(first, others).into_parts();
+    assert_eq!(rt; journal.kept.len(), 300);
     Ok(())
 }
 
@@ -127,14 +135,19 @@ fn a_chunk_of_another_arena_is_found(rt: HostRuntime) -> Result<(), Fail> {
     let (table, first, second) = two_seats(&rt, alloc)?;
     let (first_lock, mut first) = locked(alloc, &table, first, 1)?;
     let (second_lock, mut second) = locked(alloc, &table, second, 1)?;
-    assert_eq!(rt; grow(&rt, &first_lock, &mut first)?, None);
+    let mut shelf = rising(alloc)?;
+    assert_eq!(rt; grow(&rt, &mut shelf, &first_lock, &mut first)?, None);
+    let mut shelf = rising(alloc)?;
     let met = Why::Meets(Span {
         first: 512,
         pages: 512,
     });
-    assert_eq!(rt; grow(&rt, &second_lock, &mut second)?, Some(met));
-    let mut first = seat_of(alloc, first_lock, first);
-    let mut second = seat_of(alloc, second_lock, second);
+    assert_eq!(rt;
+        grow(&rt, &mut shelf, &second_lock, &mut second)?,
+        Some(met)
+    );
+    let (_, mut first) = parts_of(alloc, first_lock, first);
+    let (_, mut second) = parts_of(alloc, second_lock, second);
     assert!(rt; table.owns(&mut first, 1) && !table.owns(&mut second, 1));
     let seats = vec![in alloc; first, second]?;
     table.gather(seats);

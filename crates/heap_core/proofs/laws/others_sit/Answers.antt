@@ -1,4 +1,4 @@
-use Rattle.heap_core.proofs.Sitting.{others-sit}
+use Rattle.heap_core.proofs.Clients.{others-sit}
 use Rattle.heap_core.proofs.laws.others_sit.Goals as goal
 
 pub returns : goal.returns

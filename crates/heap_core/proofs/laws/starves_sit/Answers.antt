@@ -1,4 +1,4 @@
-use Rattle.heap_core.proofs.Sitting.{starves-sit}
+use Rattle.heap_core.proofs.Clients.{starves-sit}
 use Rattle.heap_core.proofs.laws.starves_sit.Goals as goal
 
 pub returns : goal.returns

@@ -1,4 +1,4 @@
-use Rattle.heap_core.proofs.Sitting.{turns-sit}
+use Rattle.heap_core.proofs.Clients.{turns-sit}
 use Rattle.heap_core.proofs.laws.turns_sit.Goals as goal
 
 pub returns : goal.returns

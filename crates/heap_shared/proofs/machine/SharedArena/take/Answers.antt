@@ -1,43 +1,66 @@
-use Rattle.heap_shared.proofs.Words.{◌≡◌, ◌∙◌, ◌++◌, ◌∷◌, [], sym, ap, subst, arc_value, entry_of, owns, share_of, Released, is_met, touched, Facts, Logs, MayStand, after_entry, facts_of, owned_by, Reply, mine, Space, space_after, both_true}
+use Rattle.heap_shared.proofs.Words.{◌≡◌, ◌∙◌, Some, None, sym, ap, subst, arc_value, entry_of, owns, share_of, Released, is_met, touched, wanted, Facts, Logs, MayStand, after_entry, facts_of, owned_by, Reply, mine, Space, space_after, both_true, replayed_sound, opens, true, false, is_met_by, refl, IsTrue, stands, with_found, Deed, IsElsewhere, Op, Record, record_after}
 use Rattle.heap_shared.proofs.Chunks.{owns_after}
-use Rattle.heap_shared.proofs.Rooms.{after_is, found_may, logs_entry}
+use Rattle.heap_shared.proofs.Rooms.{after_is, found_kept, found_may, found_opens, found_room, logs_entry, opens_claims}
 use Rattle.heap_shared.proofs.machine.SharedArena.take.Goals as goal
 
-pub step-requires-clause-stands : goal.step-requires-clause-stands
-step-requires-clause-stands c =
-    let may = subst (λ (s : Facts). MayStand (owned_by s c.args.client) c.args.op) (sym c.self.view_is) c.requires.may in
-    (found_may c.self.inside.arena c.self.inside.journal.items (arc_value c.self.inside.claims.table) c.args.client c.args.op c.settle-op.ensures.op.0 _ c.settle-op.ensures.op.1 c.self.invariant.0 may).0
+pub turn-requires-clause-stands : goal.turn-requires-clause-stands
+turn-requires-clause-stands c =
+    let s = facts_of c.self.inside.recorded (arc_value c.self.inside.claims.table) in
+    let client = c.args.client in
+    let doing = c.args.doing in
+    let made = c.settle-op.result in
+    let found = c.settle-op.ensures.op in
+    let replayed = c.arena.ensures.replayed in
+    let sound = replayed_sound s.arena.index s.arena.kept s.arena.space replayed in
+    let may = subst (λ (f : Facts). MayStand (owned_by f client) doing) (sym c.self.view_is) c.requires.may in
+    found_may s client doing found.0 made found.1 sound may
 
-pub step-requires-clause-room : goal.step-requires-clause-room
-step-requires-clause-room c =
-    let may = subst (λ (s : Facts). MayStand (owned_by s c.args.client) c.args.op) (sym c.self.view_is) c.requires.may in
-    (found_may c.self.inside.arena c.self.inside.journal.items (arc_value c.self.inside.claims.table) c.args.client c.args.op c.settle-op.ensures.op.0 _ c.settle-op.ensures.op.1 c.self.invariant.0 may).1
+pub turn-requires-clause-kept : goal.turn-requires-clause-kept
+turn-requires-clause-kept c =
+    let s = facts_of c.self.inside.recorded (arc_value c.self.inside.claims.table) in
+    let client = c.args.client in
+    let doing = c.args.doing in
+    let made = c.settle-op.result in
+    let found = c.settle-op.ensures.op in
+    let replayed = c.arena.ensures.replayed in
+    let sound = replayed_sound s.arena.index s.arena.kept s.arena.space replayed in
+    let may = subst (λ (f : Facts). MayStand (owned_by f client) doing) (sym c.self.view_is) c.requires.may in
+    found_kept s client doing found.0 made found.1 sound may
 
 pub returns-clause-entry : goal.returns-clause-entry
 returns-clause-entry c =
-    subst (λ (s : Facts). Logs s c.args.client c.args.op c.of-made.result) c.self.view_is
-    (logs_entry c.self.inside.arena c.self.inside.journal.items (arc_value c.self.inside.claims.table) c.args.client c.args.op c.settle-op.ensures.op.0 c.settle-op.result c.of-made.result
-    c.settle-op.ensures.op.1 c.settle-op.ensures.op.2 c.of-made.ensures (λ k ne. ap (mine k) (sym c.in_ok-reply.ensures.after) ∙ c.in_ok-reply.ensures.others k ne))
-
-pub returns-clause-after : goal.returns-clause-after
-returns-clause-after c =
-    subst (λ (s : Facts). ◌≡◌ {A = Facts × Reply} (facts_of c.step.new.self c.push_reserved.new.self.items (arc_value c.release.new.self.table), c.in_ok-reply.reply) (after_entry s c.of-made.result)) c.self.view_is
-    (after_is c.self.inside.arena c.step.new.self c.self.inside.journal.items c.push_reserved.new.self.items (arc_value c.self.inside.claims.table) _ (c.release.ensures.table ∙ c.settle-op.ensures.table) c.args.client c.settle-op.result c.of-made.result c.in_ok-reply.reply
-    c.of-made.ensures c.in_ok-reply.ensures.after c.in_ok-reply.ensures.reply (c.push_reserved.ensures.items ∙ ap (λ l. l ++ entry_of c.args.client c.settle-op.result ∷ []) c.reserve.ensures.items)
-    c.in_ok-reply.ensures.rooms)
+    let s = facts_of c.self.inside.recorded (arc_value c.self.inside.claims.table) in
+    let client = c.args.client in
+    let doing = c.args.doing in
+    let made = c.settle-op.result in
+    let found = c.settle-op.ensures.op in
+    let replayed = c.arena.ensures.replayed in
+    let sound = replayed_sound s.arena.index s.arena.kept s.arena.space replayed in
+    let may = subst (λ (f : Facts). MayStand (owned_by f client) doing) (sym c.self.view_is) c.requires.may in
+    let stand = found_may s client doing found.0 made found.1 sound may in
+    subst (λ (f : Facts). Logs f client doing c.of-made.result) c.self.view_is
+    (logs_entry s client doing found.0 c.of-made.result (c.of-made.ensures ∙ ap (λ (o : Op). record { client = client; op = o; asked = doing.asked }) found.1) (subst (λ (t : Space). IsElsewhere (wanted doing.op) t found.0) c.arena.ensures.space found.2) replayed c.arena.ensures.clients
+    (subst (λ (o : Op). IsTrue (stands s.arena.space (entry_of client o))) found.1 stand)
+    (λ k ne. ap (λ (o : Op). mine k (space_after s.arena.space (entry_of client o))) (sym found.1) ∙ ap (λ (r : Record). mine k r.space) (sym c.in_ok-turn.ensures.after) ∙ c.in_ok-turn.ensures.others k ne))
 
 pub invariant_of-self-2 : goal.invariant_of-self-2
 invariant_of-self-2 c =
-    let s = c.self.inside.arena.space in
+    let s = facts_of c.self.inside.recorded (arc_value c.self.inside.claims.table) in
+    let client = c.args.client in
+    let doing = c.args.doing in
     let made = c.settle-op.result in
-    let may = subst (λ (s : Facts). MayStand (owned_by s c.args.client) c.args.op) (sym c.self.view_is) c.requires.may in
-    let stand = (found_may c.self.inside.arena c.self.inside.journal.items (arc_value c.self.inside.claims.table) c.args.client c.args.op c.settle-op.ensures.op.0 _ c.settle-op.ensures.op.1 c.self.invariant.0 may).0 in
+    let found = c.settle-op.ensures.op in
+    let replayed = c.arena.ensures.replayed in
+    let sound = replayed_sound s.arena.index s.arena.kept s.arena.space replayed in
+    let may = subst (λ (f : Facts). MayStand (owned_by f client) doing) (sym c.self.view_is) c.requires.may in
+    let stand = found_may s client doing found.0 made found.1 sound may in
     let old = share_of c.self.inside.claims.seat in
     let mid = share_of c.settle-op.new.self.seat in
     let new = share_of c.release.new.self.seat in
-    let released = subst (λ t. Released (touched made c.in_ok-reply.reply) t mid new) c.in_ok-reply.ensures.after c.release.ensures.released in (
-      c.step.ensures.sound,
-      λ chunk. subst (λ (t : Space). owns chunk new ≡ is_met chunk t) (sym c.in_ok-reply.ensures.after)
-          (owns_after c.args.client s made c.self.invariant.0 (both_true _ _ stand).1 chunk old mid new c.self.invariant.1 c.settle-op.ensures.claimed
-          (subst (λ r. Released (touched made r) (space_after s (entry_of c.args.client made)) mid new) c.in_ok-reply.ensures.reply released)),
-    )
+    let reply = c.turn.new.reply in
+    let left = ap (λ (r : Record). r.space) c.in_ok-turn.ensures.after in
+    let one = subst (λ p. Released p c.arena-arena.result.now.space mid new) (c.with.ensures ∙ c.touch-touch.ensures reply) c.release.ensures.released in
+    let two = subst (λ (t : Space). Released (touched made reply) t mid new) (c.arena-arena.ensures.space ∙ left) one in
+    let three = subst (λ (r : Reply). Released (touched made r) (space_after s.arena.space (entry_of client made)) mid new) c.in_ok-turn.ensures.reply two in
+    λ chunk. subst (λ (t : Space). owns chunk new ≡ is_met chunk t) (sym left)
+    (owns_after client s.arena.space made sound (both_true _ _ stand).1 chunk old mid new c.self.invariant c.settle-op.ensures.claimed three)

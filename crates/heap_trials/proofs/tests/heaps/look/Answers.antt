@@ -1,5 +1,5 @@
 use Rattle.heap_trials.proofs.tests.heaps.look.Goals as goal
-use Rattle.heap_core.proofs.Words.{refl}
+use Rattle.std.proofs.Common.{refl}
 
 pub turn-requires-clause-stands : goal.turn-requires-clause-stands
 unfolding lib.Count.ones

@@ -1,4 +1,4 @@
-use Rattle.heap_core.proofs.Words.{◌-◌, ◌≤◌, vec_len}
+use Rattle.std.proofs.Common.{◌-◌, ◌≤◌, vec_len}
 use Rattle.heap_trials.proofs.tests.heaps.rising.Given as goal
 
 abbrev pub invariant-loop-boxes : goal.invariant-loop-boxes

@@ -9,4 +9,5 @@ turn-requires-clause-may g c = (
       let client : number c.loop.pass < 32 = (let a = c.requires.client in let b = c.loop.invariant.2 in omega arith) in
       let below : nat_lt (number c.loop.pass) 32 ≡ true = grind (arith, nat_tests) in
       subst (λ (b : Bool). IsTrue (b && true)) (sym below) refl,
+  tt,
 )

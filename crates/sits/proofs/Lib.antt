@@ -1,0 +1,13 @@
+pub mod Words
+pub mod Counting
+pub mod Indexes
+pub mod Clients
+pub mod Having
+pub mod Parting
+pub mod Regions
+pub mod Hands
+pub mod Suiting
+pub mod Carrying
+pub mod Settling
+pub mod Turns
+pub mod Begins
