@@ -1,7 +1,6 @@
 -- What contracts see of the boxes.
 use Rattle.std.specs.Prelude.{ℕ, List, None}
 use Rattle.hook_api.specs.Hooks.{Account}
-use Rattle.addr_space.specs.declared.lying.LyingHooks.{LyingHooks}
 
 -- how many pages of each chunk are placed, and how often the provider has refused
 pub record Placing : Type 0 where
@@ -11,7 +10,3 @@ pub record Placing : Type 0 where
 -- the provider tells nothing, and counts what it refuses
 abbrev pub placing_account : Placing → Account
 placing_account facts = record { told = None; refusals = facts.refusals }
-
--- hooks that lie tell nothing and refuse nothing
-abbrev pub lying_account : LyingHooks → Account
-lying_account hooks = record { told = None; refusals = 0 }

@@ -54,7 +54,7 @@ impl AddrSpace {
     }
 
     /// Counts a refusal.
-    fn refuse(&mut self)
+    pub(crate) fn refuse(&mut self)
         ensures counted { self.new ≡ record self.old { refusals = capped (self.old.refusals + 1) } }
         ensures rose { Rose self.old.refusals self.new.refusals }
         ensures never_falls { self.old.refusals ≤ self.new.refusals }

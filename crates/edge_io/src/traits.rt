@@ -29,7 +29,6 @@ pub trait Source {
         ensures failed { OnErr result (Rose (faults self.old) (faults self.new)) }
         ensures kept { OnErr result (Keeps (left self.old) (left self.new)) }
         ensures unfailed { OnOk result (faults self.new ≡ faults self.old) }
-        ensures by_one { faults self.new ≤ faults self.old + 1 }
         ensures counts { faults self.old ≤ faults self.new };
 }
 
@@ -57,7 +56,6 @@ pub trait Sink {
         ensures unfailed { IfOk result (λ n. 0 < n ⊎ length piece.now ≡ 0 → faults self.new ≡ faults self.old) }
         ensures waiting { IfOk result (λ n. 0 < n → waits self.new ≡ true) }
         ensures still_waiting { waits self.old ≡ true → waits self.new ≡ true }
-        ensures by_one { faults self.new ≤ faults self.old + 1 }
         ensures counts { faults self.old ≤ faults self.new };
 
     /// Hands on what waits in the sink, so that nothing waits behind an `Ok`. What it holds stays, whether or not it waits.
@@ -69,7 +67,6 @@ pub trait Sink {
         ensures unfailed { OnOk result (faults self.new ≡ faults self.old) }
         ensures handed_on { OnOk result (waits self.new ≡ false) }
         ensures still_waiting { OnErr result (waits self.old ≡ true → waits self.new ≡ true) }
-        ensures by_one { faults self.new ≤ faults self.old + 1 }
         ensures counts { faults self.old ≤ faults self.new };
 }
 
