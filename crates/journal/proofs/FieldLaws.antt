@@ -19,9 +19,9 @@ use Rattle.journal.proofs.Exact.{Exact, IsPlain, chosen, same_some, exact_both, 
 
 -- ---- numbers
 
--- decimal digits have no space
+-- decimal digits have no space and no newline
 decimal_plain : (n : ℕ) → n < 2 ^ 64 → IsPlain (decimal n)
-decimal_plain n small = no_separator_in 32 n refl small
+decimal_plain n small = (no_separator_in 32 n refl small, no_separator_in 10 n refl small)
 
 pub exact_long : Exact (λ n. n < 2 ^ 64) long
 exact_long = exact_one (λ n. n < 2 ^ 64) decimal numeral_of numeral_taken (λ n f. (numeral_told n f, decimal_plain n f))
@@ -48,8 +48,8 @@ flag_taken word b e =
 
 flag_told : (b : Bool) → Unit {0} → (flag_of (flag_word b) ≡ Some b) × IsPlain (flag_word b)
 unfolding flag_of
-flag_told true f = (refl, refl)
-flag_told false f = (refl, refl)
+flag_told true f = (refl, (refl, refl))
+flag_told false f = (refl, (refl, refl))
 
 pub exact_flag : Exact (λ b. Unit {0}) flag
 exact_flag = exact_one (λ b. Unit {0}) flag_word flag_of flag_taken flag_told
@@ -67,7 +67,7 @@ maybe_taken word o e =
     ]
 
 -- decimal digits aren't a dash, and don't begin with one
-not_equal : (t : Bool) → not t ≡ true → t ≡ false
+pub not_equal : (t : Bool) → not t ≡ true → t ≡ false
 not_equal true e = absurd cc
 not_equal false e = refl
 
@@ -80,7 +80,7 @@ not_dash (c ∷ cs) h = rw (no_dash c cs h) refl
 
 maybe_told : (o : Option ℕ) → FitsMaybe o → (maybe_of (maybe_word o) ≡ Some o) × IsPlain (maybe_word o)
 unfolding maybe_of
-maybe_told None f = (refl, refl)
+maybe_told None f = (refl, (refl, refl))
 maybe_told (Some n) f = (rw (not_dash (decimal n) (no_separator_in 45 n refl f), numeral_told n f) refl, decimal_plain n f)
 
 pub exact_maybe : Exact FitsMaybe maybe

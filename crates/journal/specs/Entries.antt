@@ -1,6 +1,7 @@
 -- The text of an entry of a journal: one line, whose words are parted by one space each.
-use Rattle.std.specs.Prelude.{ℕ, ◌^◌, ◌<◌, List, [], ◌∷◌, ◌++◌, Option}
+use Rattle.std.specs.Prelude.{◌≡◌, ◌==◌, ℕ, ◌^◌, ◌<◌, false, List, [], ◌∷◌, ◌++◌, Option}
 use Rattle.std.specs.Fmt.{decimal, signed_decimal}
+use Rattle.std.specs.List.{All}
 use Rattle.text_words.specs.Words.{words_of}
 use Rattle.space_model.specs.declared.Entry.{Entry}
 use Rattle.journal.specs.Codec.{Words, ◌⊗◌, made, whole}
@@ -18,6 +19,10 @@ spaced (word ∷ words) = 32 ∷ word ++ spaced words
 -- the text of an entry: the arena's index, the client, and the operation
 abbrev pub entry_text : ℕ → Entry → List ℕ
 entry_text index entry = decimal index ++ spaced (decimal entry.client ∷ op_words entry.op)
+
+-- no newline is among the bytes
+abbrev pub IsOneLine : List ℕ → Type 0
+IsOneLine bytes = All (λ b. (b == 10) ≡ false) bytes
 
 -- what words say that are an entry's
 unfoldable pub entry_at : Words → Option (ℕ × Entry)

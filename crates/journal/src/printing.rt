@@ -1,7 +1,7 @@
 //! Printing entries.
 
 ghost use Rattle.std.specs.Prelude.{◌≡◌, ◌++◌, Some, OnOk};
-ghost use Rattle.journal.specs.Entries.{entry_of, entry_text};
+ghost use Rattle.journal.specs.Entries.{IsOneLine, entry_of, entry_text};
 
 use crate::tokens::{Token, put, put_number};
 use crate::widths::{is_int, known};
@@ -16,6 +16,7 @@ use std::alloc::AllocError as NoMemory;
 pub fn print(index: u32, kept: &Kept, out: &mut Vec<u8>) -> Result<(), NoMemory>
     ensures text { OnOk result (out.new.items ≡ out.old.items ++ entry_text index kept.now.entry) }
     ensures again { entry_of (entry_text index kept.now.entry) ≡ Some (index, kept.now.entry) }
+    ensures line { IsOneLine (entry_text index kept.now.entry) }
 {
     let entry = kept.entry();
     reads_again(index, entry);
@@ -24,10 +25,11 @@ pub fn print(index: u32, kept: &Kept, out: &mut Vec<u8>) -> Result<(), NoMemory>
     put_op(out, &entry.op)
 }
 
-/// The text of an entry is read as this entry again.
-#[tactic(auto, using(crate::proofs::EntryLaws::entry_again))]
+/// The text of an entry is read as this entry again, and has no newline.
+#[tactic(auto, using(crate::proofs::EntryLaws::entry_again, crate::proofs::EntryLaws::entry_line))]
 fn reads_again(index: u32, entry: &Entry)
-    ensures { entry_of (entry_text index entry.now) ≡ Some (index, entry.now) }
+    ensures again { entry_of (entry_text index entry.now) ≡ Some (index, entry.now) }
+    ensures line { IsOneLine (entry_text index entry.now) }
 {
     is_int(index);
     is_int(entry.client);

@@ -3,3 +3,4 @@ pub mod Owners
 pub mod Judging
 pub mod Accepting
 pub mod Told
+pub mod Passing

@@ -20,7 +20,7 @@ unfolding unlogged
 owns_past log chunk i past = rw (get_or_past log i (unlogged 32) past) refl
 
 -- so an owner is one of the arenas
-owner_within : (log : List Logged) (chunk i : ℕ) → owns_at chunk log i ≡ true → i < length log
+pub owner_within : (log : List Logged) (chunk i : ℕ) → owns_at chunk log i ≡ true → i < length log
 owner_within log chunk i is = elim (cases_lt i (length log)) [ inl lt ↦ lt | inr past ↦ absurd (not_both (owns_at chunk log i) is (owns_past log chunk i past)) ]
   where
     not_both : (b : Bool) → b ≡ true → b ≡ false → ⊥
