@@ -4,13 +4,14 @@ use Rattle.hook_api.specs.Asked.{AskFacts}
 use Rattle.hook_api.specs.Shelf.{Shelf}
 use Rattle.hook_api.specs.declared.kept.Journal.{Journal}
 use Rattle.report_text.specs.declared.causes.Cause.{Cause}
+use Rattle.replay_run.specs.declared.replays.Closing.{Closing}
 use Rattle.replay_run.specs.Replays.{Bad, ReplayOf}
 use Rattle.replay_run.specs.Soaks.{IsSoakStatus}
 use Rattle.replay_run.specs.Stops.{IsReplayStatus}
 
 -- a replay at which nothing failed and no line is bad goes on to its end, but for want of memory
-pub replay_completes : {R W : Type 0} {status : ℕ} {journals : List Journal} {heard : List AskFacts} {shelf_before shelf_after : Shelf} {met : Bool} {left_before left before after : Option (List ℕ)} →
-    (replay : ReplayOf status journals heard shelf_before shelf_after met left_before left before after) → IsReplayStatus status → (status ≡ 4 → R) → (status ≡ 5 → W) →
+pub replay_completes : {R W : Type 0} {form : Closing} {status : ℕ} {journals : List Journal} {heard : List AskFacts} {shelf_before shelf_after : Shelf} {met : Bool} {left_before left before after : Option (List ℕ)} →
+    (replay : ReplayOf form status journals heard shelf_before shelf_after met left_before left before after) → IsReplayStatus status → (status ≡ 4 → R) → (status ≡ 5 → W) →
     ((cause : Cause) → replay.ending ≢ Bad cause) → (R → ⊥) → (W → ⊥) → (status ≡ 0) ⊎ (status ≡ 6)
 replay_completes replay (inl zero) read write good no_read no_write = inl zero
 replay_completes replay (inr (inl three)) read write good no_read no_write = let bad = replay.prints.refused three in absurd (good bad.0 bad.1)

@@ -1,22 +1,33 @@
 -- The lists of words exclude each other.
-use Rattle.std.proofs.Common.{◌≡◌, ℕ, List, [], get_or, length, sym, ◌∙◌, ap, arith}
+use Rattle.std.proofs.Common.{◌≡◌, ℕ, List, [], get_or, length, refl, sym, ◌∙◌, ap, arith}
 use Rattle.std.proofs.lemmas.Fmt.{decimal_injective}
+use Rattle.replay_run.specs.declared.replays.Closing.{Closing}
+use Rattle.replay_run.specs.declared.replays.Closing.TheVariants.{Lines, Json}
 use Rattle.jarena.specs.Words.{IsCheck, IsInNoList, IsReplay, IsSoak}
 
--- words of a replay are none of a soak
-pub replay_no_soak : (words : List (List ℕ)) (start calls : ℕ) → IsReplay words → IsSoak words start calls → ⊥
-replay_no_soak words start calls replay soak = absurd (omega (arith, ap length (sym replay ∙ soak.0)))
+-- words of a replay tell its form
+pub replay_form : (words : List (List ℕ)) (form other : Closing) → IsReplay words form → IsReplay words other → form ≡ other
+replay_form words Lines Lines is also = refl
+replay_form words Json Json is also = refl
+replay_form words Lines Json is also = absurd (omega (arith, ap length (sym is ∙ also)))
+replay_form words Json Lines is also = absurd (omega (arith, ap length (sym is ∙ also)))
+
+-- and are none of a soak
+pub replay_no_soak : (words : List (List ℕ)) (form : Closing) (start calls : ℕ) → IsReplay words form → IsSoak words start calls → ⊥
+replay_no_soak words Lines start calls replay soak = absurd (omega (arith, ap length (sym replay ∙ soak.0)))
+replay_no_soak words Json start calls replay soak = absurd (omega (arith, ap length (sym replay ∙ soak.0)))
 
 -- words of a check are none of another list
-pub check_no_replay : (words : List (List ℕ)) → IsCheck words → IsReplay words → ⊥
-check_no_replay words check replay = absurd (omega (arith, ap (λ (ws : List (List ℕ)). length (get_or ws 0 [])) (sym check ∙ replay)))
+pub check_no_replay : (words : List (List ℕ)) (form : Closing) → IsCheck words → IsReplay words form → ⊥
+check_no_replay words Lines check replay = absurd (omega (arith, ap (λ (ws : List (List ℕ)). length (get_or ws 0 [])) (sym check ∙ replay)))
+check_no_replay words Json check replay = absurd (omega (arith, ap length (sym check ∙ replay)))
 
 pub check_no_soak : (words : List (List ℕ)) (start calls : ℕ) → IsCheck words → IsSoak words start calls → ⊥
 check_no_soak words start calls check soak = absurd (omega (arith, ap length (sym check ∙ soak.0)))
 
 -- words of a list are in a list
-pub replay_in_list : (words : List (List ℕ)) → IsReplay words → IsInNoList words → ⊥
-replay_in_list words replay none = none.0 replay
+pub replay_in_list : (words : List (List ℕ)) (form : Closing) → IsReplay words form → IsInNoList words → ⊥
+replay_in_list words form replay none = none.0 form replay
 
 pub soak_in_list : (words : List (List ℕ)) (start calls : ℕ) → IsSoak words start calls → IsInNoList words → ⊥
 soak_in_list words start calls soak none = none.1 start calls soak

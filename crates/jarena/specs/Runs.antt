@@ -6,6 +6,7 @@ use Rattle.hook_api.specs.Shelf.{Shelf}
 use Rattle.hook_api.specs.declared.kept.Journal.{Journal}
 use Rattle.report_text.specs.Lines.{usage_line}
 use Rattle.report_text.specs.declared.causes.Cause.{Cause}
+use Rattle.replay_run.specs.declared.replays.Closing.{Closing}
 use Rattle.replay_run.specs.Replays.{Bad, DoesNothing, HandsOut, ReplayOf}
 use Rattle.replay_run.specs.Soaks.{IsSoakStatus, SoakOf}
 use Rattle.replay_run.specs.Stops.{IsReplayStatus, IsWholeStatus}
@@ -39,11 +40,11 @@ pub record OnlyTellsUsage (run : RunFacts) (shelf : Shelf) (sink sink' : SinkFac
   pub no_journals : run.journals ≡ []
   pub same_shelf : run.shelf ≡ shelf
 
--- `replay`: the lines of the source are replayed. Where the status says that the report is whole, nothing failed and nothing
+-- `replay`, or `replay --json` by another form of the counts: the lines of the source are replayed. Where the status says that the report is whole, nothing failed and nothing
 -- waits; and where no count of faults rose and no line is bad, the status is 0, or 6 for want of memory.
-pub record Replays (run : RunFacts) (shelf : Shelf) (source source' : SourceFacts) (sink sink' : SinkFacts) : Type 0 where
+pub record Replays (form : Closing) (run : RunFacts) (shelf : Shelf) (source source' : SourceFacts) (sink sink' : SinkFacts) : Type 0 where
   pub journals : List Journal
-  pub replay : ReplayOf run.status journals run.heard shelf run.shelf source'.ended source.left source'.left sink.held sink'.held
+  pub replay : ReplayOf form run.status journals run.heard shelf run.shelf source'.ended source.left source'.left sink.held sink'.held
   pub hands_out : HandsOut journals run.journals (DoesNothing run.status run.heard shelf run.shelf source.left source'.left sink.held sink'.held)
   pub ended : run.status ≡ 0 → source'.ended ≡ true
   pub read_fault : run.status ≡ 4 → Rose source.faults source'.faults

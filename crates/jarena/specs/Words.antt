@@ -1,12 +1,15 @@
 -- The words that the program is given, as texts.
 use Rattle.std.specs.Prelude.{◌≡◌, ◌≢◌, ℕ, ◌^◌, ◌<◌, ◌≤◌, List, [], ◌∷◌, codes}
 use Rattle.std.specs.Fmt.{decimal}
+use Rattle.replay_run.specs.declared.replays.Closing.{Closing}
+use Rattle.replay_run.specs.declared.replays.Closing.TheVariants.{Lines, Json}
 use Rattle.jarena.specs.declared.words.Asked.{Asked}
 use Rattle.jarena.specs.declared.words.Asked.TheVariants.{Nothing, Replay, Soak, Check}
 
--- the words of a replay
-abbrev pub replay_words : List (List ℕ)
-replay_words = codes "replay" ∷ []
+-- the words of a replay whose counts are told in this form
+abbrev pub replay_words : Closing → List (List ℕ)
+replay_words Lines = codes "replay" ∷ []
+replay_words Json = codes "replay" ∷ codes "--json" ∷ []
 
 -- the words of a soak: its start and how many calls, each as a number is printed
 abbrev pub soak_words : ℕ → ℕ → List (List ℕ)
@@ -16,9 +19,13 @@ soak_words start calls = codes "soak" ∷ decimal start ∷ decimal calls ∷ []
 abbrev pub check_words : List (List ℕ)
 check_words = codes "check" ∷ []
 
--- the words are exactly `replay`
-abbrev pub IsReplay : List (List ℕ) → Type 0
-IsReplay words = words ≡ replay_words
+-- the words are exactly `replay`, or `replay --json` where the counts are told as JSON
+abbrev pub IsReplay : List (List ℕ) → Closing → Type 0
+IsReplay words form = words ≡ replay_words form
+
+-- they are so for no form
+abbrev pub IsNoReplay : List (List ℕ) → Type 0
+IsNoReplay words = (form : Closing) → IsReplay words form → ⊥
 
 -- the words are exactly `check`
 abbrev pub IsCheck : List (List ℕ) → Type 0
@@ -34,11 +41,11 @@ IsNoSoak words = (start : ℕ) (calls : ℕ) → IsSoak words start calls → �
 
 -- the words are in no list that is built
 abbrev pub IsInNoList : List (List ℕ) → Type 0
-IsInNoList words = (words ≢ replay_words) × IsNoSoak words × (words ≢ check_words)
+IsInNoList words = IsNoReplay words × IsNoSoak words × (words ≢ check_words)
 
 -- the words ask for this
 abbrev pub IsAsked : List (List ℕ) → Asked → Type 0
 IsAsked words Nothing = IsInNoList words
-IsAsked words Replay = IsReplay words
+IsAsked words (Replay form) = IsReplay words form
 IsAsked words (Soak start calls) = IsSoak words start calls
 IsAsked words Check = IsCheck words

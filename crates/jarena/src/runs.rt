@@ -1,6 +1,7 @@
 //! The top call: all that the program does, over a source, a sink and a shelf of hooks.
 
 ghost use Rattle.std.specs.Prelude.{◌≡◌, ◌⊎◌, ℕ, [], map, string_bytes};
+ghost use Rattle.replay_run.specs.declared.replays.Closing.{Closing};
 ghost use Rattle.jarena.specs.Runs.{Checks, OnlyTellsUsage, Replays, Soaks, run_facts, sink_facts, source_facts};
 ghost use Rattle.jarena.specs.Words.{IsCheck, IsInNoList, IsReplay, IsSoak};
 
@@ -57,8 +58,9 @@ fn untouched<H: ExtentHooks>(alloc: Global, status: u8, shelf: HookShelf<H>) -> 
 
 /// Does all that the program does, given its words without its own name.
 ///
-/// Where the words are exactly `replay`, it carries out the lines of the source and prints what they answer. Where they are
-/// exactly `soak START CALLS`, it carries out lines that are drawn, and prints the counts at their end. Where they are exactly
+/// Where the words are exactly `replay`, it carries out the lines of the source and prints what they answer, and a count line for
+/// each live arena at the end; where they are exactly `replay --json`, one line of JSON in place of these. Where they are exactly
+/// `soak START CALLS`, it carries out lines that are drawn, and prints the counts at their end. Where they are exactly
 /// `check`, it judges the lines of the source as printed journals. Where they are in no list, it writes the usage line and gives
 /// status 2, or 5 where the sink failed, and does nothing else.
 pub fn run<S: Source, K: Sink, H: ExtentHooks>(
@@ -71,8 +73,8 @@ pub fn run<S: Source, K: Sink, H: ExtentHooks>(
     ensures usage { IsInNoList (map string_bytes words.now) → OnlyTellsUsage (run_facts result.status result.shelf result.journals result.heard) shelf
         (sink_facts (K.held sink.old) (K.faults sink.old) (K.waits sink.old)) (sink_facts (K.held sink.new) (K.faults sink.new) (K.waits sink.new)) }
     ensures status_2 { result.status ≡ 2 → IsInNoList (map string_bytes words.now) }
-    ensures unread { IsReplay (map string_bytes words.now) ⊎ (IsCheck (map string_bytes words.now) ⊎ (source.new ≡ source.old)) }
-    ensures replay { IsReplay (map string_bytes words.now) → Replays (run_facts result.status result.shelf result.journals result.heard) shelf
+    ensures unread { ((form : Closing) × IsReplay (map string_bytes words.now) form) ⊎ (IsCheck (map string_bytes words.now) ⊎ (source.new ≡ source.old)) }
+    ensures replay { (form : Closing) → IsReplay (map string_bytes words.now) form → Replays form (run_facts result.status result.shelf result.journals result.heard) shelf
         (source_facts (S.left source.old) (S.ended source.old) (S.faults source.old)) (source_facts (S.left source.new) (S.ended source.new) (S.faults source.new))
         (sink_facts (K.held sink.old) (K.faults sink.old) (K.waits sink.old)) (sink_facts (K.held sink.new) (K.faults sink.new) (K.waits sink.new)) }
     ensures soak { (start : ℕ) (calls : ℕ) → IsSoak (map string_bytes words.now) start calls
@@ -83,7 +85,7 @@ pub fn run<S: Source, K: Sink, H: ExtentHooks>(
         (sink_facts (K.held sink.old) (K.faults sink.old) (K.waits sink.old)) (sink_facts (K.held sink.new) (K.faults sink.new) (K.waits sink.new)) }
 {
     match asked_by(words) {
-        Asked::Replay => outcome_of(replay(alloc, source, sink, shelf)),
+        Asked::Replay(closing) => outcome_of(replay(alloc, source, sink, shelf, closing)),
         Asked::Soak { start, calls } => {
             outcome_of(soak(alloc, Lines::new(start, calls), sink, shelf))
         }

@@ -130,7 +130,7 @@ fn outcome(alloc: Global, given: Given<'_>) -> Result<Outcome, NoMemory> {
 fn words_in_no_list_get_the_usage_line(rt: HostRuntime) -> Result<(), Fail> {
     let wrong: [&[&str]; 6] = [
         &[],
-        &["replay", "--json"],
+        &["--json", "replay"],
         &["replay "],
         &["soak", "07", "0"],
         &["soak", "18446744073709551616", "0"],

@@ -3,11 +3,12 @@
 ghost use Rattle.std.specs.Prelude.{◌≡◌, ◌≢◌, ◌∷◌, [], ℕ, false, ◌^◌, ◌<◌, ◌↔◌, IfNone, IfSome, IsTrue, MatchOption, map, string_bytes};
 ghost use Rattle.std.specs.Fmt.{decimal};
 ghost use Rattle.jarena.specs.Runs.{TellsUsage, sink_facts};
-ghost use Rattle.jarena.specs.Words.{IsAsked, IsNoSoak, IsSoak};
+ghost use Rattle.jarena.specs.Words.{IsAsked, IsNoReplay, IsNoSoak, IsReplay, IsSoak};
 
 use crate::status::{BAD_WORDS, SINK_FAILED};
 use edge_io::{Failed, Sink, write_whole};
 use itoa::Buffer;
+use replay_run::Closing;
 use report_text::usage_line;
 
 /// How many calls a soak makes at most.
@@ -18,8 +19,8 @@ const MOST_CALLS: u64 = 1_000_000;
 pub(crate) enum Asked {
     /// They are in no list.
     Nothing,
-    /// A replay of the input.
-    Replay,
+    /// A replay of the input, whose counts are told in this form at the end.
+    Replay(Closing),
     /// A soak of so many calls, drawn from a start.
     Soak { start: u64, calls: u64 },
     /// A check of journals.
@@ -30,8 +31,8 @@ pub(crate) enum Asked {
 pub(crate) fn asked_by(words: &[String]) -> Asked
     ensures { IsAsked (map string_bytes words.now) result }
 {
-    if is_word(words, "replay") {
-        return Asked::Replay;
+    if let Some(closing) = replay_asked(words) {
+        return Asked::Replay(closing);
     }
     if is_word(words, "check") {
         return Asked::Check;
@@ -39,6 +40,19 @@ pub(crate) fn asked_by(words: &[String]) -> Asked
     match soak_asked(words) {
         Some((start, calls)) => Asked::Soak { start, calls },
         None => Asked::Nothing,
+    }
+}
+
+/// How the counts are to be told, where the words are exactly `replay` or `replay --json`.
+fn replay_asked(words: &[String]) -> Option<Closing>
+    ensures { MatchOption result (IsNoReplay (map string_bytes words.now)) (IsReplay (map string_bytes words.now)) }
+{
+    match words {
+        [word] if word.as_str() == "replay" => Some(Closing::Lines),
+        [word, option] if word.as_str() == "replay" && option.as_str() == "--json" => {
+            Some(Closing::Json)
+        }
+        _ => None,
     }
 }
 

@@ -1,5 +1,5 @@
 -- The region that a memalign is given is aligned: each step of the call keeps what is so of its place.
-use Rattle.replay_run.proofs.Words.{◌≡◌, ℕ, ◌%◌, ◌<◌, ◌==◌, Bool, true, false, All, inl, inr, List, [], ◌∷◌, ◌++◌, Option, Some, IfSome, length, get_or, refl, sym, ◌∙◌, ap, subst, arith, nat_lt, Contains, count_by, eqb-true, ltb-true, nat_tests, get_or_default, All-filter, All-head, All-tail, sum_by-cons, ones, align_at, SpaceRegion, Space, is_held_by, Sound, both_true, Held, cached_in, DeskFacts, cached_is_flat, Answered, Region, Item, Request, Memalign, Owning, Point, Turns, Next, Go, Ends, IsCacheAligned, CallFacts, AllCame, desk_fed, Moment, after, begin, begin_memalign, begin_stage, run, settle, step_next, step, memaligns-are_aligned, IsArenas, opening_records, record_at, HeapFacts, Record, Seat, asked_for, first_desk, first_seat, seat_at, HasRegions, IsSeated, is_region, sound_at, had_counts, Owns, count_in, counts_low, has_owns, opening-sits, opening_is, past, IsAligned, IsAlignedFor, MemalignsAreAligned, Tale, answer_in, tale_fed, tale_in, WorldEvent, IsSound, World, Came}
+use Rattle.replay_run.proofs.Words.{known_is, ◌≡◌, ℕ, ◌%◌, ◌<◌, ◌==◌, Bool, true, false, All, inl, inr, List, [], ◌∷◌, ◌++◌, Option, Some, IfSome, length, get_or, refl, sym, ◌∙◌, ap, subst, arith, nat_lt, Contains, count_by, eqb-true, ltb-true, nat_tests, get_or_default, All-filter, All-head, All-tail, sum_by-cons, ones, align_at, SpaceRegion, Space, is_held_by, Sound, both_true, Held, cached_in, DeskFacts, cached_is_flat, Answered, Region, Item, Request, Memalign, Owning, Point, Turns, Next, Go, Ends, IsCacheAligned, CallFacts, AllCame, desk_fed, Moment, after, begin, begin_memalign, begin_stage, run, settle, step_next, step, memaligns-are_aligned, IsArenas, opening_records, record_at, HeapFacts, Record, Seat, asked_for, first_desk, first_seat, seat_at, HasRegions, IsSeated, is_region, sound_at, had_counts, Owns, count_in, counts_low, has_owns, opening-sits, opening_is, past, IsAligned, IsAlignedFor, MemalignsAreAligned, Tale, answer_in, tale_fed, tale_in, WorldEvent, IsSound, World, Came}
 use Rattle.call_plan.specs.declared.needs.Answered.TheVariants.{Ok}
 use Rattle.replay_run.proofs.Getting.{Gets, begin_gets, step_gets}
 use Rattle.replay_run.proofs.Tales.{EndsHere, EndsWith, Kept, each_event}
@@ -30,13 +30,13 @@ sound_has records c desk call seated = grind arith
 -- each region that it has cached is aligned
 has_aligned : (records : List Record) (c : ℕ) (desk : DeskFacts) → IsArenas records → HasRegions records c desk → IsCacheAligned desk
 has_aligned records c desk is has class small i d within =
-    let owns : Owns records c [] desk = has_owns records c desk has in
+    let owns : Owns true records c [] desk = has_owns records c desk has in
     let list : List Held = cached_in desk.cached class in
     let r : Held = get_or list i d in
     let there : Contains list r = (i, within, get_or_default list i r d within) in
     let counts : 0 < count_in records c r.arena r.addr r.class = had_counts (count_in records c) desk r owns.hands (inr (inl (cached_is_flat desk.cached class r there))) owns.shaped in
     let s : Space = (record_at records r.arena).space in
-    let sound : Sound s = sound_at records r.arena is (counts_low records c r.arena r.addr r.class is counts) in
+    let sound : Sound s = sound_at records r.arena is (counts_low records c r.arena r.addr r.class (known_is records is) counts) in
     let aligned : r.addr % align_at r.class ≡ 0 = counted_aligned r.addr r.class _ (All-filter (is_held_by c) IsRegionAligned s.regions sound.aligned) counts in
     subst (λ k. r.addr % align_at k ≡ 0) (has.classed class i d within) aligned
 
@@ -117,7 +117,7 @@ given_aligned w event (Some answer) (Some tale) ends = answer_aligned ends.0 tal
 given_aligned w event answer tale ends = tt
 
 event_aligned : (w : World) (tales : List (Option Tale)) (event : WorldEvent) → EndsHere Aligns w tales event → IsAligned w tales event
-event_aligned w tales event (ends, here) = given_aligned w event (answer_in w event) (tale_in w tales event) ends
+event_aligned w tales event it = given_aligned w event (answer_in w event) (tale_in w tales event) it.ends
 
 pub plays-are_aligned : MemalignsAreAligned
 plays-are_aligned events play sound = each_event Aligns IsAligned event_aligned aligns_kept events play sound

@@ -1,19 +1,19 @@
 -- Replays at their beginning and at their end.
-use Rattle.replay_run.proofs.Words.{arith, length, map, true, IfErr, IfOk, OnOk, replicate, ◌≡◌, ◌≤◌, ◌⊎◌, inl, inr, ℕ, Bool, List, [], ◌++◌, Option, None, Result, Ok, Err, refl, sym, ◌∙◌, subst, IsErrAnd, Appends-nil, Consumes-nil, Consumes, Keeps, Rose, AskFacts, Shelf, Journal, journal_of, opening_heap, Stop, ReadFault, WriteFault, IsSound, lines_in, world_after, Ending, IsEnding, Open, Prints, ReplayOf, RunOf, ending_text, HasRead, Here, Now, Outset, Reading, HasStopCause, IsWholeStatus, status_for, status_in, Nothing, World, no_answers, opening_world}
+use Rattle.replay_run.proofs.Words.{arith, length, map, true, IfErr, IfOk, OnOk, replicate, ◌≡◌, ◌≤◌, ◌⊎◌, inl, inr, ℕ, Bool, List, [], ◌++◌, Option, None, Result, Ok, Err, refl, sym, ◌∙◌, subst, IsErrAnd, Appends-nil, Consumes-nil, Consumes, Keeps, Rose, AskFacts, Shelf, Journal, journal_of, opening_heap, Stop, ReadFault, WriteFault, IsSound, lines_in, world_after, Ending, IsEnding, Open, Prints, ReplayOf, RunOf, ending_text, HasRead, Here, Now, Outset, Reading, HasStopCause, IsWholeStatus, status_for, status_in, Nothing, World, no_answers, opening_controls, opening_world, Closing}
 use Rattle.replay_run.proofs.Endings.{kept_after, kept_begun, stop_bounds}
 use Rattle.replay_run.proofs.Stops.{prints_begun}
 
 -- ---- the beginning
 
 -- before the first line nothing was carried out
-pub here_none : (from : Outset) (now : Now) → now.heap ≡ opening_heap → now.verbs ≡ replicate 32 None → now.names ≡ [] → now.tally ≡ no_answers → now.moment ≡ 0 →
+pub here_none : (from : Outset) (now : Now) → now.heap ≡ opening_heap → now.calls ≡ replicate 32 None → now.names ≡ [] → now.tally ≡ no_answers → now.controls ≡ opening_controls → now.moment ≡ 0 →
     now.shelf ≡ from.shelf → now.held ≡ from.held → IsSound now.heap → Here from [] Nothing [] now
-here_none from now heap verbs names tally moment shelf held sound = record {
+here_none from now heap calls names tally controls moment shelf held sound = record {
   text = [];
   came = record {
     events = [];
     play = tt;
-    here = rw (heap, verbs, names, tally, moment) refl;
+    here = rw (heap, calls, names, tally, controls, moment) refl;
     sound = subst IsSound heap sound;
     chain = shelf;
     of_lines = refl;
@@ -34,17 +34,17 @@ read_none left at none same = record {
 -- ---- the end
 
 -- a stop that was passed on
-pub replay_passed : {journals : List Journal} {heard : List AskFacts} {shelf_before shelf_after : Shelf} {met : Bool} {left_before left before after : Option (List ℕ)} (r : Result ℕ Stop) (stop : Stop) →
-    IsErrAnd r (λ passed. passed ≡ stop) → ReplayOf (status_for stop) journals heard shelf_before shelf_after met left_before left before after →
-    ReplayOf (status_in r) journals heard shelf_before shelf_after met left_before left before after
+pub replay_passed : {form : Closing} {journals : List Journal} {heard : List AskFacts} {shelf_before shelf_after : Shelf} {met : Bool} {left_before left before after : Option (List ℕ)} (r : Result ℕ Stop) (stop : Stop) →
+    IsErrAnd r (λ passed. passed ≡ stop) → ReplayOf form (status_for stop) journals heard shelf_before shelf_after met left_before left before after →
+    ReplayOf form (status_in r) journals heard shelf_before shelf_after met left_before left before after
 replay_passed (Ok status) stop is replay = absurd is
 replay_passed (Err passed) stop is replay = rw is replay
 
 -- what was printed, where the sink keeps what it holds
-prints_kept : {status : ℕ} {w : World} {count : ℕ} {rest : List ℕ} {ending : Ending} {before held after : Option (List ℕ)} → Prints status w count rest ending before held → Keeps held after →
-    Prints status w count rest ending before after
-prints_kept {status} {w} {count} {rest} {ending} {before} {held} {after} prints kept =
-    let text : List ℕ = w.text ++ ending_text w count ending in record {
+prints_kept : {form : Closing} {status : ℕ} {w : World} {count : ℕ} {rest : List ℕ} {ending : Ending} {before held after : Option (List ℕ)} → Prints form status w count rest ending before held → Keeps held after →
+    Prints form status w count rest ending before after
+prints_kept {form} {status} {w} {count} {rest} {ending} {before} {held} {after} prints kept =
+    let text : List ℕ = w.text ++ ending_text form w count ending in record {
       beginning = kept_begun before held after text prints.beginning kept;
       whole = λ is. let p = prints.whole is in (p.0, kept_after before held after text p.1 kept);
       refused = λ is. let p = prints.refused is in (p.0, p.1, p.2, kept_after before held after text p.3 kept);
@@ -54,16 +54,16 @@ prints_kept {status} {w} {count} {rest} {ending} {before} {held} {after} prints 
     }
 
 -- where the last flush fails, what was printed is the beginning of a report at least
-prints_or : {T : Type 0} {status : ℕ} {w : World} {count : ℕ} {rest : List ℕ} {ending : Ending} {before held after : Option (List ℕ)} (other : ℕ) → (other ≡ status) ⊎ ((other ≡ 5) × T) → Prints status w count rest ending before held → Keeps held after →
-    Prints other w count rest ending before after
+prints_or : {T : Type 0} {form : Closing} {status : ℕ} {w : World} {count : ℕ} {rest : List ℕ} {ending : Ending} {before held after : Option (List ℕ)} (other : ℕ) → (other ≡ status) ⊎ ((other ≡ 5) × T) → Prints form status w count rest ending before held → Keeps held after →
+    Prints form other w count rest ending before after
 prints_or other (inl same) prints kept = rw same (prints_kept prints kept)
-prints_or {T} {status} {w} {count} {rest} {ending} {before} {held} {after} other (inr five) prints kept =
-    rw five.0 (prints_begun (omega arith) (omega arith) (kept_begun before held after (w.text ++ ending_text w count ending) prints.beginning kept))
+prints_or {T} {form} {status} {w} {count} {rest} {ending} {before} {held} {after} other (inr five) prints kept =
+    rw five.0 (prints_begun (omega arith) (omega arith) (kept_begun before held after (w.text ++ ending_text form w count ending) prints.beginning kept))
 
 -- a replay ends with another status, which says less, and its sink keeps what it holds
-pub replay_or : {T : Type 0} {status : ℕ} {journals : List Journal} {heard : List AskFacts} {shelf_before shelf_after : Shelf} {met : Bool} {left_before left before held after : Option (List ℕ)} (other : ℕ) →
-    (other ≡ status) ⊎ ((other ≡ 5) × T) → Keeps held after → ReplayOf status journals heard shelf_before shelf_after met left_before left before held →
-    ReplayOf other journals heard shelf_before shelf_after met left_before left before after
+pub replay_or : {T : Type 0} {form : Closing} {status : ℕ} {journals : List Journal} {heard : List AskFacts} {shelf_before shelf_after : Shelf} {met : Bool} {left_before left before held after : Option (List ℕ)} (other : ℕ) →
+    (other ≡ status) ⊎ ((other ≡ 5) × T) → Keeps held after → ReplayOf form status journals heard shelf_before shelf_after met left_before left before held →
+    ReplayOf form other journals heard shelf_before shelf_after met left_before left before after
 replay_or other which kept replay = record {
   events = replay.events;
   ran = replay.ran;
@@ -86,8 +86,8 @@ last_status ended flushed status {T} (inr fault) is = inr (rw fault.0 at is, fau
 pub ran_none : (shelf : Shelf) → IsSound opening_heap → RunOf (map journal_of opening_heap.records) [] shelf shelf []
 ran_none shelf sound = record { play = tt; sound = sound; in_journals = refl; hears = refl; chain = refl }
 
-pub replay_none : (shelf : Shelf) (met : Bool) (left held : Option (List ℕ)) → IsSound opening_heap → ReplayOf 6 (map journal_of opening_heap.records) [] shelf shelf met left left held held
-replay_none shelf met left held sound = record {
+pub replay_none : (form : Closing) (shelf : Shelf) (met : Bool) (left held : Option (List ℕ)) → IsSound opening_heap → ReplayOf form 6 (map journal_of opening_heap.records) [] shelf shelf met left left held held
+replay_none form shelf met left held sound = record {
   events = [];
   ran = ran_none shelf sound;
   taken = [];
@@ -154,8 +154,8 @@ stays_on (Ok done) low old new same ok = ok ∙ same
 stays_on (Err stop) low old new same ok = tt
 
 -- at status 0 the source has met its end
-pub replay_ended : {status : ℕ} {journals : List Journal} {heard : List AskFacts} {shelf_before shelf_after : Shelf} {met : Bool} {left_before left before after : Option (List ℕ)} →
-    ReplayOf status journals heard shelf_before shelf_after met left_before left before after → status ≡ 0 → met ≡ true
-replay_ended {status} {journals} {heard} {shelf_before} {shelf_after} {met} {left_before} {left} {before} {after} replay zero =
+pub replay_ended : {form : Closing} {status : ℕ} {journals : List Journal} {heard : List AskFacts} {shelf_before shelf_after : Shelf} {met : Bool} {left_before left before after : Option (List ℕ)} →
+    ReplayOf form status journals heard shelf_before shelf_after met left_before left before after → status ≡ 0 → met ≡ true
+replay_ended {form} {status} {journals} {heard} {shelf_before} {shelf_after} {met} {left_before} {left} {before} {after} replay zero =
     let whole = replay.prints.whole zero in
     (subst (IsEnding (world_after opening_world replay.events) (length (lines_in replay.events)) replay.rest left met) whole.0 replay.ends).3

@@ -1,5 +1,5 @@
 -- Runs of lines that are given.
-use Rattle.replay_run.proofs.Words.{arith, length, map, ◌≡◌, ◌⊎◌, inl, inr, ℕ, List, [], ◌∷◌, ◌++◌, Option, None, Result, Ok, Err, IfOk, IfErr, OnOk, OnErr, refl, sym, ◌∙◌, ap, subst, append-nil, append_assoc, IsErrAnd, Appends-nil, Appends, AppendsPrefix, Keeps, AskFacts, Shelf, Journal, journal_of, opening_heap, Line, Stop, ReadFault, WriteFault, NoMemory, line_cause, IsSound, StopOf, Here, Now, Outset, world_at, PrintsSoak, SoakOf, IsSoakStatus, soak_text, HasStopCause, status_for, status_in, Nothing, World}
+use Rattle.replay_run.proofs.Words.{arith, length, map, ◌≡◌, ◌⊎◌, inl, inr, ℕ, List, [], ◌∷◌, ◌++◌, Option, None, Result, Ok, Err, IfOk, IfErr, OnOk, OnErr, refl, sym, ◌∙◌, ap, subst, append-nil, append_assoc, IsErrAnd, Lines, Appends-nil, Appends, AppendsPrefix, Keeps, AskFacts, Shelf, Journal, journal_of, opening_heap, Line, Stop, ReadFault, WriteFault, NoMemory, line_cause, IsSound, StopOf, Here, Now, Outset, world_at, PrintsSoak, SoakOf, IsSoakStatus, soak_text, HasStopCause, status_for, status_in, Nothing, World}
 use Rattle.trace_soak.specs.Soak.{IsClientCall}
 use Rattle.trace_text.specs.declared.lines.Verb.TheVariants as verb
 use Rattle.trace_text.specs.declared.lines.Line.TheVariants as line
@@ -81,7 +81,7 @@ soak_halted lines done rest (Ok status) stop held is are halted = absurd is
 soak_halted lines done rest (Err passed) stop held is are halted = rw is (soak_stopped lines done rest stop held are halted)
 
 -- behind the last line the last text was printed, or a beginning of it
-soak_last : {shelf : Shelf} {now : Now} (lines : List Line) (r : Result ℕ Stop) (before after : Option (List ℕ)) → (so : Here (record { shelf = shelf; held = None }) lines Nothing [] now) →
+soak_last : {shelf : Shelf} {now : Now} (lines : List Line) (r : Result ℕ Stop) (before after : Option (List ℕ)) → (so : Here (record { shelf = shelf; held = None; form = Lines }) lines Nothing [] now) →
     OnOk r (Appends before after (soak_text (length lines) (world_at now so.text Nothing))) → OnErr r (AppendsPrefix before after (soak_text (length lines) (world_at now so.text Nothing))) →
     IfOk r (λ status. status ≡ 0) → SoakOf (status_in r) lines (map journal_of now.heap.records) now.heap.heard shelf now.shelf before after
 soak_last {shelf} {now} lines (Ok status) before after so ok err is =
@@ -101,7 +101,7 @@ soak_last {shelf} {now} lines (Err stop) before after so ok err is = record {
 }
 
 -- the same, where the lines were counted
-pub soak_counted : {shelf : Shelf} {now : Now} (lines : List Line) (calls : ℕ) (r : Result ℕ Stop) (before after : Option (List ℕ)) → calls ≡ length lines → (so : Here (record { shelf = shelf; held = None }) lines Nothing [] now) →
+pub soak_counted : {shelf : Shelf} {now : Now} (lines : List Line) (calls : ℕ) (r : Result ℕ Stop) (before after : Option (List ℕ)) → calls ≡ length lines → (so : Here (record { shelf = shelf; held = None; form = Lines }) lines Nothing [] now) →
     OnOk r (Appends before after (soak_text calls (world_at now so.text Nothing))) → OnErr r (AppendsPrefix before after (soak_text calls (world_at now so.text Nothing))) →
     IfOk r (λ status. status ≡ 0) → SoakOf (status_in r) lines (map journal_of now.heap.records) now.heap.heard shelf now.shelf before after
 soak_counted {shelf} {now} lines calls r before after same so ok err is =

@@ -21,3 +21,9 @@ pub mod Truths
 pub mod Reasons
 pub mod Getting
 pub mod Aligned
+pub mod Counting
+pub mod SmallCounts
+pub mod Ways
+pub mod Served
+pub mod Leaving
+pub mod Trims

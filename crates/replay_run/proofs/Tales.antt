@@ -1,37 +1,36 @@
 -- What is kept by each step of a call is so of each open call of a play by its tale, and of each answer.
-use Rattle.replay_run.proofs.Words.{◌≡◌, ◌≢◌, ℕ, ◌<◌, ◌≤◌, ◌==◌, Bool, true, false, List, [], ◌∷◌, ◌++◌, Record, Option, None, Some, IfSome, is_none, length, refl, sym, ◌∙◌, ap, subst, arith, nat_lt, option_map, ltb-true, nat_tests, get_or-replicate, get_or-set_other, length-replicate, set-get_or, Op, Space, Sound, step_of, AskFacts, Held, DeskFacts, not_holding, Answered, NotHeld, Item, Replied, ToldItem, Request, Owning, Point, Turns, Next, Go, Ends, CallFacts, moment_of, desk_fed, Moves, aimed, ended_by, published_next, Moment, after, begin_stage, settle, step_next, Want, WantAsk, WantTurn, step, record_at, spaces_of, with_chunk_found, HeapFacts, answered_by, holder_for, moment_after, parted, published_for, region_for, replied, started, turned_for, Seat, answer_of, asked_for, begun, first_seat, open_call, seat_at, seat_of, found_for, settled_is, sound_at, past, ask_line, turn_line, Line, Verb, AllEvents, NowhereCause, Tale, answer_begun, answer_in, no_tales, tale_at, tale_begun, tale_fed, tale_in, tale_turned, tale_until, tales_after, tales_begun, line_cause, verb_cause, AllWorlds, WorldEvent, HasSoundHeap, IsAskOf, IsNext, IsPlay, IsSound, IsWanted, client_awaited, Read, Began, Turned, Told, Starved, after_event, Awaits, Memory, TheEndBefore, TheStart, World, awaits_after, awaits_call, begins, begun_as, line_read, opening_world, request_of, stepped, target_of, Came}
+use Rattle.replay_run.proofs.Words.{◌≡◌, ◌≢◌, ℕ, ◌<◌, ◌≤◌, ◌==◌, Bool, true, false, List, [], ◌∷◌, ◌++◌, Record, Option, None, Some, IfSome, length, refl, sym, ◌∙◌, ap, subst, arith, nat_lt, option_map, ltb-true, nat_tests, get_or-replicate, get_or-set_other, length-replicate, set-get_or, Op, Space, Sound, step_of, AskFacts, Held, DeskFacts, not_holding, Answered, NotHeld, Item, Replied, ToldItem, Request, Owning, Point, Turns, Next, Go, Ends, CallFacts, moment_of, desk_fed, Moves, aimed, ended_by, published_next, Moment, after, begin_stage, settle, step_next, Want, WantAsk, WantTurn, step, record_at, spaces_of, with_chunk_found, HeapFacts, answered_by, holder_for, moment_after, parted, published_for, region_for, replied, started, turned_for, Seat, answer_of, asked_for, begun, first_seat, open_call, seat_at, seat_of, found_for, settled_is, sound_at, past, ask_line, turn_line, Line, Verb, AllEvents, NowhereCause, Tale, answer_begun, answer_in, no_tales, tale_at, tale_begun, tale_fed, tale_in, tale_turned, tale_until, tales_after, tales_begun, AllWorlds, WorldEvent, HasSoundHeap, IsAskOf, IsNext, IsPlay, IsSound, IsWanted, client_awaited, Read, Began, Turned, Told, Starved, after_event, Awaits, Memory, World, begins, begun_as, line_read, opening_world, stepped, target_of, Came, Result, Ok, Err, Beginning, AsksFor, TellsAt, FindsNone, ControlFacts, CtlError, CtlStep, CtlPlain, CtlWrite, SweepFacts, WentOn, beginning_in, ctl_begins, goes_on_with, request_begins, request_of, times_at, request_in, settled, sweep_begins, tales_asked}
+use Rattle.ctl_values.specs.declared.steps.CtlStep.TheVariants.{CallAll}
 use Rattle.replay_run.proofs.NewHeaps.{sits_there}
+use Rattle.replay_run.proofs.Plays.{stepped_heap}
+use Rattle.replay_run.specs.Beginnings.{sweep_over}
 use Rattle.std.proofs.Common.{slice_set}
 use Rattle.std.proofs.lemmas.List.{get_or-set_same}
 use Rattle.std.proofs.Math.ListN.{length-set}
 
--- the call that is to begin is one that is carried out
-abbrev pub IsBuilt : Awaits → Type 0
-IsBuilt (TheEndBefore c verb whole) = verb_cause verb ≡ None
-IsBuilt (TheStart c verb whole) = verb_cause verb ≡ None
-IsBuilt awaits = Unit {0}
-
-after_built : (awaits : Awaits) (goes : Bool) → IsBuilt awaits → IsBuilt (awaits_after awaits goes)
-after_built awaits goes built = grind arith
-
-call_built : (waits : Bool) (c : ℕ) (verb : Verb) (whole : Bool) → verb_cause verb ≡ None → IsBuilt (awaits_call waits c verb whole)
-call_built true c verb whole built = built
-call_built false c verb whole built = built
-
-begun_built : (w : World) (c : ℕ) (verb : Verb) (whole : Bool) (answer : Option Answered) → IsBuilt (begun_as w c verb whole answer).awaits
-begun_built w c verb whole answer = grind arith
-
 -- a line leaves the heap as it is
-line_heap : (w : World) (line : Line) → (line_read w line).heap ≡ w.heap
+pub line_heap : (w : World) (line : Line) → (line_read w line).heap ≡ w.heap
 line_heap w line = grind arith
 
-line_built : (w : World) (line : Line) → IsBuilt w.awaits → line_cause w.moment line ≡ None → IsBuilt (line_read w line).awaits
-line_built w line was cause = grind (arith, call_built)
+-- a line of a control finds something, or tells that there is nothing
+sweep_finds : (sweep : SweepFacts) (next : Option Request) → sweep_begins sweep next ≡ FindsNone → ⊥
+sweep_finds sweep None is = absurd (cc (is))
+sweep_finds sweep (Some request) is = absurd (cc (is))
 
--- a call that is carried out and asks for nothing was to take a region over
-nowhere : (w : World) (c : ℕ) (verb : Verb) (whole : Bool) → verb_cause verb ≡ None → request_of w.heap.records w.names w.moment verb ≡ None →
-    NowhereCause w (Began c verb whole) (NotHeld (target_of w.names verb))
-nowhere w c verb whole built none = grind arith
+control_finds : (h : HeapFacts) (k : ControlFacts) (c : ℕ) (step : Result CtlStep CtlError) → ctl_begins h k c step ≡ FindsNone → ⊥
+control_finds h k c (Err error) is = absurd (cc (is))
+control_finds h k c (Ok (CallAll upkeep)) is = sweep_finds (sweep_over h.records upkeep) _ is
+control_finds h k c (Ok step) is = absurd (cc (is))
+
+asks_nothing : (request : Option Request) → request_begins request ≡ FindsNone → request ≡ None
+asks_nothing None is = refl
+asks_nothing (Some request) is = absurd (cc (is))
+
+-- a call that asks for nothing was to take a region over
+nowhere : (w : World) (c : ℕ) (verb : Verb) (whole : Bool) → beginning_in w c verb ≡ FindsNone → NowhereCause w (Began c verb whole) (NotHeld (target_of w.names verb))
+nowhere w c (CtlPlain name) whole none = absurd (control_finds w.heap w.controls c _ none)
+nowhere w c (CtlWrite name value) whole none = absurd (control_finds w.heap w.controls c _ none)
+nowhere w c verb whole none = let asks = asks_nothing (request_of w.heap.records w.names (times_at w.controls w.moment) verb) none in grind arith
 
 -- a client with an open call is one of those that there are
 pub seat_there : (seats : List Seat) (c : ℕ) (call : CallFacts) → length seats ≡ 32 → (seat_at seats c).call ≡ Some call → c < 32
@@ -97,15 +96,17 @@ module _ (P : ℕ → Tale → Next → Type 0) where
   abbrev pub IsEnded : World → List (Option Tale) → WorldEvent → Type 0
   IsEnded w tales event = IfSome (answer_in w event) (EndsWith w event (tale_in w tales event))
 
-  abbrev pub EndsHere : World → List (Option Tale) → WorldEvent → Type 0
-  EndsHere w tales event = IsEnded w tales event × IsHere w event
-
-  -- It is so of all open calls of a world, and the call that is to begin is carried out.
+  -- It is so of all open calls of a world.
   pub record AllOpen (w : World) (tales : List (Option Tale)) : Type 0 where
     pub clients : length w.heap.seats ≡ 32
     pub number : length tales ≡ 32
-    pub built : IsBuilt w.awaits
     pub calls : (c : ℕ) → OfCall c (seat_at w.heap.seats c).call (tale_at tales c)
+
+  -- An event comes next where it is so of all open calls, and so it is of the call that it ends.
+  pub record EndsHere (w : World) (tales : List (Option Tale)) (event : WorldEvent) : Type 0 where
+    pub ends : IsEnded w tales event
+    pub here : IsHere w event
+    pub open_calls : AllOpen w tales
 
   -- the call is open with its tale, or has ended
   opens_with : (c : ℕ) (at : Moment) (tale : Tale) (next : Next) → at.request ≡ tale.request → P c tale at.stage.next → OfCall c (open_call c at next) (tale_until (ended_by next) (Some tale))
@@ -188,30 +189,53 @@ module _ (P : ℕ → Tale → Next → Type 0) where
       (length-set gone.seats c last ∙ still, calls_kept gone.seats tales c last still number others (aimed_still keeps c call region.arena (tale_at tales c) own))
 
   -- a step of a call leads to a heap with these clients
-  stepped_open : (w : World) (tales : List (Option Tale)) (c : ℕ) (heap : HeapFacts) (line : List ℕ) (answer : Option Answered) → IsBuilt w.awaits → length heap.seats ≡ 32 → length tales ≡ 32 →
+  stepped_open : (w : World) (tales : List (Option Tale)) (c : ℕ) (heap : HeapFacts) (line : List ℕ) (answer : Option Answered) → length heap.seats ≡ 32 → length tales ≡ 32 →
       ((k : ℕ) → OfCall k (seat_at heap.seats k).call (tale_at tales k)) → AllOpen (stepped w c heap line answer) tales
-  stepped_open w tales c heap line answer built clients number calls =
-      record { clients = clients; number = number; built = after_built w.awaits (is_none answer) built; calls = calls }
+  stepped_open w tales c heap line answer clients number calls =
+      let same : (stepped w c heap line answer).heap ≡ heap = stepped_heap w c heap line answer in record {
+        clients = ap (λ (h : HeapFacts). length h.seats) same ∙ clients;
+        number = number;
+        calls = λ k. subst (λ (h : HeapFacts). OfCall k (seat_at h.seats k).call (tale_at tales k)) (sym same) (calls k);
+      }
 
-  begun_open : (w : World) (tales : List (Option Tale)) (c : ℕ) (verb : Verb) (whole : Bool) (answer : Option Answered) → length w.heap.seats ≡ 32 → length tales ≡ 32 →
-      ((k : ℕ) → OfCall k (seat_at w.heap.seats k).call (tale_at tales k)) → AllOpen (begun_as w c verb whole answer) tales
-  begun_open w tales c verb whole None clients number calls = record { clients = clients; number = number; built = begun_built w c verb whole None; calls = calls }
-  begun_open w tales c verb whole (Some answer) clients number calls = record { clients = clients; number = number; built = tt; calls = calls }
+  begun_open : (w : World) (tales : List (Option Tale)) (c : ℕ) (verb : Verb) (whole : Bool) (sweep : Option SweepFacts) (answer : Option Answered) → length w.heap.seats ≡ 32 → length tales ≡ 32 →
+      ((k : ℕ) → OfCall k (seat_at w.heap.seats k).call (tale_at tales k)) → AllOpen (begun_as w c verb whole sweep answer) tales
+  begun_open w tales c verb whole sweep None clients number calls = record { clients = clients; number = number; calls = calls }
+  begun_open w tales c verb whole sweep (Some answer) clients number calls = record { clients = clients; number = number; calls = calls }
 
-  began : Kept → (w : World) (tales : List (Option Tale)) (c : ℕ) (verb : Verb) (whole : Bool) (request : Option Request) → IsSound w.heap → AllOpen w tales → verb_cause verb ≡ None →
-      request_of w.heap.records w.names w.moment verb ≡ request →
-      IfSome (answer_begun w c verb request) (EndsWith w (Began c verb whole) (option_map (tale_begun w.heap.seats c) request)) × AllOpen (begins w c verb whole request) (tales_begun w c request tales)
-  began keeps w tales c verb whole None sound so built e =
-      (nowhere w c verb whole built e, record { clients = so.clients; number = so.number; built = tt; calls = so.calls })
-  began keeps w tales c verb whole (Some request) sound so built e =
+  -- What a request leaves where it begins: its answer ends it, or it is open.
+  record AskedFor (w : World) (tales : List (Option Tale)) (event : WorldEvent) (c : ℕ) (request : Request) : Type 0 where
+    ends : IfSome (answer_of (begun w.heap.seats c request)) (EndsWith w event (Some (tale_begun w.heap.seats c request)))
+    clients : length (started w.heap c request).seats ≡ 32
+    number : length (tales_asked w c request tales) ≡ 32
+    calls : (k : ℕ) → OfCall k (seat_at (started w.heap c request).seats k).call (tale_at (tales_asked w c request tales) k)
+
+  asked_open : Kept → (w : World) (tales : List (Option Tale)) (event : WorldEvent) (c : ℕ) (request : Request) → IsSound w.heap → AllOpen w tales → AskedFor w tales event c request
+  asked_open keeps w tales event c request sound so =
       let at : Moment = begun w.heap.seats c request in
       let tale : Tale = tale_begun w.heap.seats c request in
-      let left : Left w (Began c verb whole) c (seat_of c at).call (answer_of at) (Some tale) = left_at w (Began c verb whole) c at tale refl (keeps.begins w.heap c request sound so.clients) in (
-        left.ends,
-        begun_open (record w { heap = started w.heap c request }) (slice_set tales c (tale_until (answer_of at) (Some tale))) c verb whole (answer_of at)
-            (length-set w.heap.seats c (seat_of c at) ∙ so.clients) (length-set tales c (tale_until (answer_of at) (Some tale)) ∙ so.number)
-            (calls_set w.heap.seats tales c (seat_of c at) (tale_until (answer_of at) (Some tale)) so.clients so.number so.calls (λ there. left.goes)),
+      let left : Left w event c (seat_of c at).call (answer_of at) (Some tale) = left_at w event c at tale refl (keeps.begins w.heap c request sound so.clients) in record {
+        ends = left.ends;
+        clients = length-set w.heap.seats c (seat_of c at) ∙ so.clients;
+        number = length-set tales c (tale_until (answer_of at) (Some tale)) ∙ so.number;
+        calls = calls_set w.heap.seats tales c (seat_of c at) (tale_until (answer_of at) (Some tale)) so.clients so.number so.calls (λ there. left.goes);
+      }
+
+  began : Kept → (w : World) (tales : List (Option Tale)) (c : ℕ) (verb : Verb) (whole : Bool) (b : Beginning) → IsSound w.heap → AllOpen w tales → beginning_in w c verb ≡ b →
+      IfSome (answer_begun w c verb b) (EndsWith w (Began c verb whole) (option_map (tale_begun w.heap.seats c) (request_in b))) × AllOpen (begins (settled w verb) c verb whole b) (tales_begun w c (request_in b) tales)
+  began keeps w tales c verb whole FindsNone sound so e = (nowhere w c verb whole e, record { clients = so.clients; number = so.number; calls = so.calls })
+  began keeps w tales c verb whole (TellsAt answer) sound so e = (tt, record { clients = so.clients; number = so.number; calls = so.calls })
+  began keeps w tales c verb whole (AsksFor request sweep) sound so e =
+      let asked : AskedFor w tales (Began c verb whole) c request = asked_open keeps w tales (Began c verb whole) c request sound so in (
+        asked.ends,
+        begun_open (record (settled w verb) { heap = started w.heap c request }) (tales_asked w c request tales) c verb whole sweep (answer_of (begun w.heap.seats c request)) asked.clients asked.number asked.calls,
       )
+
+  went_on : Kept → (w : World) (tales : List (Option Tale)) (c : ℕ) (request : Request) (behind : Awaits) → IsSound w.heap → AllOpen w tales →
+      IfSome (answer_of (begun w.heap.seats c request)) (EndsWith w (WentOn c request behind) (Some (tale_begun w.heap.seats c request))) × AllOpen (goes_on_with w c request behind) (tales_asked w c request tales)
+  went_on keeps w tales c request behind sound so =
+      let asked : AskedFor w tales (WentOn c request behind) c request = asked_open keeps w tales (WentOn c request behind) c request sound so in
+      (asked.ends, record { clients = asked.clients; number = asked.number; calls = asked.calls })
 
   -- a call is fed what came of what it wanted
   fed_open : Kept → (w : World) (tales : List (Option Tale)) (event : WorldEvent) (c : ℕ) (call : CallFacts) (wanted : Want) (item : Item) (records : List Record) (heard : List AskFacts) (line : List ℕ) → AllOpen w tales →
@@ -224,7 +248,7 @@ module _ (P : ℕ → Tale → Next → Type 0) where
       let own : OfCall c (Some call) (tale_at tales c) = subst (λ (o : Option CallFacts). OfCall c o (tale_at tales c)) wants.open_call (so.calls c) in
       let left : Left w event c (seat_of c at).call (answer_of at) tale = fed keeps w event c call (seat_at w.heap.seats c).desk wants.point item (tale_at tales c) wants.at own came in (
         left.ends,
-        stepped_open w (slice_set tales c (tale_until (answer_of at) tale)) c (record { records = records; seats = slice_set w.heap.seats c (seat_of c at); heard = heard }) line (answer_of at) so.built
+        stepped_open w (slice_set tales c (tale_until (answer_of at) tale)) c (record { records = records; seats = slice_set w.heap.seats c (seat_of c at); heard = heard }) line (answer_of at)
             (length-set w.heap.seats c (seat_of c at) ∙ so.clients) (length-set tales c (tale_until (answer_of at) tale) ∙ so.number)
             (calls_set w.heap.seats tales c (seat_of c at) (tale_until (answer_of at) tale) so.clients so.number so.calls (λ there. left.goes)),
       )
@@ -239,44 +263,44 @@ module _ (P : ℕ → Tale → Next → Type 0) where
   turned keeps w tales c call op asked (Some holder) sound so wants =
       let heap : HeapFacts = published_for w.heap c call holder (region_for w.heap call holder) in
       let goes = published_calls keeps w.heap tales c call holder (region_for w.heap call holder) so.clients so.number wants.open_call so.calls in
-      (tt, subst (AllOpen (stepped w c heap (turn_line c) None)) (sym (set-get_or tales c None)) (stepped_open w tales c heap (turn_line c) None so.built goes.0 so.number goes.1))
+      (tt, subst (AllOpen (stepped w c heap (turn_line c) None)) (sym (set-get_or tales c None)) (stepped_open w tales c heap (turn_line c) None goes.0 so.number goes.1))
 
   -- nothing comes where memory was wanting
   over : (w : World) (tales : List (Option Tale)) (events : List WorldEvent) → w.awaits ≡ Memory → IsPlay w events → AllEvents EndsHere w tales events
   over w tales [] ends play = tt
   over w tales (event ∷ events) ends play = absurd (never w event ends play.0)
 
-  line_open : (w : World) (tales : List (Option Tale)) (line : Line) → AllOpen w tales → line_cause w.moment line ≡ None → AllOpen (line_read w line) tales
-  line_open w tales line so free = record {
+  line_open : (w : World) (tales : List (Option Tale)) (line : Line) → AllOpen w tales → AllOpen (line_read w line) tales
+  line_open w tales line so = record {
     clients = ap (λ (h : HeapFacts). length h.seats) (line_heap w line) ∙ so.clients;
     number = so.number;
-    built = line_built w line so.built free;
     calls = λ c. subst (λ (h : HeapFacts). OfCall c (seat_at h.seats c).call (tale_at tales c)) (sym (line_heap w line)) (so.calls c);
   }
 
   plays : Kept → (w : World) (tales : List (Option Tale)) (events : List WorldEvent) → AllOpen w tales → IsPlay w events → AllWorlds HasSoundHeap w events → AllEvents EndsHere w tales events
   plays keeps w tales [] so play sound = tt
   plays keeps w tales (Read line ∷ events) so (next, more) (here, sound) =
-      ((tt, record { next = next; sound = here; clients = so.clients }), plays keeps (line_read w line) tales events (line_open w tales line so next.1) more sound)
+      (record { ends = tt; here = record { next = next; sound = here; clients = so.clients }; open_calls = so }, plays keeps (line_read w line) tales events (line_open w tales line so) more sound)
   plays keeps w tales (Began c verb whole ∷ events) so (next, more) (here, sound) =
-      let built : verb_cause verb ≡ None = subst IsBuilt next so.built in
-      let goes = began keeps w tales c verb whole (request_of w.heap.records w.names w.moment verb) here so built refl in
-      ((goes.0, record { next = next; sound = here; clients = so.clients }), plays keeps _ _ events goes.1 more sound)
+      let goes = began keeps w tales c verb whole (beginning_in w c verb) here so refl in
+      (record { ends = goes.0; here = record { next = next; sound = here; clients = so.clients }; open_calls = so }, plays keeps _ _ events goes.1 more sound)
+  plays keeps w tales (WentOn c request behind ∷ events) so (next, more) (here, sound) =
+      let goes = went_on keeps w tales c request behind here so in
+      (record { ends = goes.0; here = record { next = next; sound = here; clients = so.clients }; open_calls = so }, plays keeps _ _ events goes.1 more sound)
   plays keeps w tales (Turned c call op asked ∷ events) so (next, more) (here, sound) =
       let goes = turned keeps w tales c call op asked (holder_for w.heap call) here so next in
-      ((goes.0, record { next = next; sound = here; clients = so.clients }), plays keeps _ _ events goes.1 more sound)
+      (record { ends = goes.0; here = record { next = next; sound = here; clients = so.clients }; open_calls = so }, plays keeps _ _ events goes.1 more sound)
   plays keeps w tales (Told c call asked ∷ events) so (next, more) (here, sound) =
       let goes = fed_open keeps w tales (Told c call asked) c call (WantAsk asked.ask) (ToldItem asked) w.heap.records (w.heap.heard ++ asked ∷ []) (ask_line c asked.ask asked.answer) so next.0
       (answer_came w c call asked here (seat_there w.heap.seats c call so.clients next.0.open_call) next.0 next.1) in
-      ((goes.0, record { next = next; sound = here; clients = so.clients }), plays keeps _ _ events goes.1 more sound)
-  plays keeps w tales (Starved c call ∷ events) so (next, more) (here, sound) = ((tt, record { next = next; sound = here; clients = so.clients }), over (after_event w (Starved c call)) tales events refl more)
+      (record { ends = goes.0; here = record { next = next; sound = here; clients = so.clients }; open_calls = so }, plays keeps _ _ events goes.1 more sound)
+  plays keeps w tales (Starved c call ∷ events) so (next, more) (here, sound) = (record { ends = tt; here = record { next = next; sound = here; clients = so.clients }; open_calls = so }, over (after_event w (Starved c call)) tales events refl more)
 
   -- no call is open in the opening world
   none_open : AllOpen opening_world no_tales
   none_open = record {
     clients = length-replicate 32 first_seat;
     number = length-replicate 32 (let none : Option Tale = None in none);
-    built = tt;
     calls = λ c. subst (λ (x : Seat). OfCall c x.call (tale_at no_tales c)) (sym (rests c (nat_lt c 32) refl)) tt;
   }
     where

@@ -1,5 +1,5 @@
 -- What an answer says of the world is so: a bad answer of a hook is one, and an arena that isn't there isn't live.
-use Rattle.replay_run.proofs.Words.{◌≡◌, false, is_live, ℕ, max, List, [], ◌∷◌, ◌++◌, Option, None, Some, IfSome, refl, sym, subst, rules, arith, nat_tests, nat_lt, Ask, Alloc, Answer, Placed, BadReply, Reply, Why, Space, Op, AskFacts, Answered, Item, ToldItem, Request, DeskFacts, AskPoint, Growing, Needing, Mine, Knows, Point, Turns, Asks, Tells, TurnPoint, Next, Go, Over, More, Gone, Ends, Nowhere, CallFacts, ended_by, settle, step_next, WantAsk, WantTurn, want, step, told, turn_replied, after_grow, grow_bad, answered_span, batch_goes, going, flushes, BatchFacts, batch_of, op_goes, both_true, turns-sit, sound_at, Sound, record_at, spaces_of, met_by_alloc, answered_by, moment_after, replied, answer_of, begun, seat_at, tale_begun, tale_in, Tale, AnswerCause, BadAnswer, Verb, Bool, option_map, desk_fed, done_at, ask_at, whole_chunks, step_of, op_for, reply_in, with_chunk_found, ◌<◌, ◌*◌, IsSeated, SitsAt, SpeaksAgainst, IsTrueIn, answer_begun, answer_in, WorldEvent, IsSound, IsWanted, Began, Turned, Told, World, request_of, holder_for}
+use Rattle.replay_run.proofs.Words.{◌≡◌, false, is_live, ℕ, max, List, [], ◌∷◌, ◌++◌, Option, None, Some, IfSome, refl, sym, subst, rules, arith, nat_tests, nat_lt, Ask, Alloc, Answer, Placed, BadReply, Reply, Why, Space, Op, AskFacts, Answered, Item, ToldItem, Request, DeskFacts, AskPoint, Growing, Needing, Mine, Knows, Point, Turns, Asks, Tells, TurnPoint, Next, Go, Over, More, Gone, Ends, Nowhere, CallFacts, ended_by, settle, step_next, WantAsk, WantTurn, want, step, told, turn_replied, after_grow, grow_bad, answered_span, batch_goes, going, flushes, BatchFacts, batch_of, op_goes, both_true, turns-sit, sound_at, Sound, record_at, spaces_of, met_by_alloc, answered_by, moment_after, replied, answer_of, begun, seat_at, tale_begun, tale_in, Tale, AnswerCause, BadAnswer, Verb, Bool, option_map, desk_fed, done_at, ask_at, whole_chunks, step_of, op_for, reply_in, with_chunk_found, ◌<◌, ◌*◌, IsSeated, SitsAt, SpeaksAgainst, IsTrueIn, answer_begun, answer_in, WorldEvent, IsSound, IsWanted, Began, Turned, Told, World, holder_for, AsksFor, TellsAt, FindsNone, Beginning, IsGoneIn, NoSuchArena, WentOn, beginning_in, request_in}
 use Rattle.space_model.specs.Outcome.{Outcome, LookNoArena, FillNoArena, AdvanceNoArena, PurgeNoArena, TakeNoArena, ResetNoArena, DestroyNoArena, CountsNoArena, SetNoArena}
 use Rattle.space_model.specs.declared.Reply.TheVariants.{NoArena}
 use Rattle.replay_run.proofs.Tales.{IsHere, seat_there}
@@ -122,19 +122,23 @@ never_empty [] later item e = absurd (cc)
 never_empty (first ∷ earlier) later item e = absurd (cc)
 
 -- a request that begins was told of no hook
-began_true : (w : World) (c : ℕ) (verb : Verb) (whole : Bool) (request : Option Request) →
-    IfSome (answer_begun w c verb request) (AnswerCause w (Began c verb whole) (option_map (tale_begun w.heap.seats c) request)) → IfSome (answer_begun w c verb request) (IsTrueIn w (Began c verb whole))
-began_true w c verb whole None cause = tt
-began_true w c verb whole (Some request) cause = by (answer_of (begun w.heap.seats c request)) cause
-  where
-    by : (answer : Option Answered) → IfSome answer (AnswerCause w (Began c verb whole) (Some (tale_begun w.heap.seats c request))) → IfSome answer (IsTrueIn w (Began c verb whole))
-    by None cause = tt
-    by (Some (BadAnswer span why)) cause = absurd (never_empty cause.earlier _ (ToldItem cause.asked) cause.told)
-    by (Some answer) cause = tt
+asked_true : (w : World) (event : WorldEvent) (c : ℕ) (request : Request) (answer : Option Answered) → ((index : ℕ) → IsGoneIn w.heap event index) →
+    IfSome answer (AnswerCause w event (Some (tale_begun w.heap.seats c request))) → IfSome answer (IsTrueIn w event)
+asked_true w event c request None gone cause = tt
+asked_true w event c request (Some (BadAnswer span why)) gone cause = absurd (never_empty cause.earlier _ (ToldItem cause.asked) cause.told)
+asked_true w event c request (Some (NoSuchArena index)) gone cause = gone index
+asked_true w event c request (Some answer) gone cause = tt
+
+began_true : (w : World) (c : ℕ) (verb : Verb) (whole : Bool) (b : Beginning) →
+    IfSome (answer_begun w c verb b) (AnswerCause w (Began c verb whole) (option_map (tale_begun w.heap.seats c) (request_in b))) → IfSome (answer_begun w c verb b) (IsTrueIn w (Began c verb whole))
+began_true w c verb whole FindsNone cause = tt
+began_true w c verb whole (TellsAt answer) cause = tt
+began_true w c verb whole (AsksFor request sweep) cause = asked_true w (Began c verb whole) c request (answer_of (begun w.heap.seats c request)) (λ index. tt) cause
 
 -- what the answer of an event says of the world is so
 pub event_true : (w : World) (tales : List (Option Tale)) (event : WorldEvent) → IsHere w event → IfSome (answer_in w event) (AnswerCause w event (tale_in w tales event)) → IfSome (answer_in w event) (IsTrueIn w event)
-event_true w tales (Began c verb whole) here cause = began_true w c verb whole (request_of w.heap.records w.names w.moment verb) cause
+event_true w tales (Began c verb whole) here cause = began_true w c verb whole (beginning_in w c verb) cause
+event_true w tales (WentOn c request behind) here cause = asked_true w (WentOn c request behind) c request (answer_of (begun w.heap.seats c request)) (λ index. tt) cause
 event_true w tales (Turned c call op asked) here cause =
     answered_true w c call op asked (holder_for w.heap call) here.sound (seat_there w.heap.seats c call here.clients here.next.open_call) here.next
 event_true w tales (Told c call asked) here cause = heard_true w c call asked here.next.0

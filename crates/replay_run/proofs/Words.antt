@@ -41,17 +41,23 @@ pub use Rattle.call_plan.specs.declared.points.TurnPoint.{TurnPoint}
 pub use Rattle.call_plan.specs.declared.points.TurnPoint.TheVariants.{Owning, Filling, Looking, Landing}
 pub use Rattle.call_plan.specs.declared.points.Wish.{Wish}
 pub use Rattle.edge_io.specs.Bytes.{Appends, AppendsPrefix, Consumes, Keeps, Rose, IsAtEnd}
-pub use Rattle.heap_core.proofs.Clients.{sound_at, found_for, settled_is}
-pub use Rattle.heap_core.proofs.Hands.{had_counts}
-pub use Rattle.heap_core.proofs.Settling.{Owns, count_in, counts_low, has_owns}
-pub use Rattle.heap_core.proofs.Sitting.{opening-sits, asks-sit, holders-publish, turns-sit}
-pub use Rattle.heap_core.proofs.Turned.{opening_is, past}
-pub use Rattle.heap_core.specs.Arenas.{IsArenas, opening_records, record_at, journal_of, no_record, record_after, spaces_of, records_turned}
+pub use Rattle.heap_core.proofs.Clients.{known_is, sound_at, found_for, settled_is}
+pub use Rattle.sits.proofs.Hands.{had_counts}
+pub use Rattle.sits.proofs.Settling.{Owns, count_in, counts_low, has_owns}
+pub use Rattle.heap_core.proofs.Sitting.{opening-sits, holders-publish}
+pub use Rattle.heap_core.proofs.Clients.{asks-sit, turns-sit}
+pub use Rattle.heap_core.proofs.Turned.{opening_is}
+pub use Rattle.sits.proofs.Indexes.{past}
+pub use Rattle.heap_core.specs.Arenas.{IsArenas, opening_records, journal_of, spaces_of}
+pub use Rattle.sits.specs.Arenas.{record_at, no_record, records_turned}
+pub use Rattle.recorded_arena.specs.Records.{record_after}
 pub use Rattle.heap_core.specs.Chunks.{with_chunk_found}
 pub use Rattle.heap_core.specs.Heaps.{HeapFacts, holder_for, published_for, region_for, started, turned_for, opening_heap, IsStepFor, IsStep, WantedAt, holding_client, op_for, region_in_seat, answered_by, moment_after, parted, replied, told_to}
-pub use Rattle.heap_core.specs.Records.{Record}
-pub use Rattle.heap_core.specs.Seats.{Seat, asked_for, first_desk, first_seat, seat_at, answer_of, begun, open_call, seat_of}
-pub use Rattle.heap_core.specs.Sitting.{HasRegions, IsSeated, SitsAt, is_region, HoldersPublish, SeatSound, AsksSit, TurnsSit}
+pub use Rattle.recorded_arena.specs.Records.{Record}
+pub use Rattle.sits.specs.Seats.{Seat, open_call, seat_of}
+pub use Rattle.heap_core.specs.Seats.{asked_for, first_desk, first_seat, seat_at, answer_of, begun}
+pub use Rattle.heap_core.specs.Sitting.{HasRegions, IsSeated, SitsAt, HoldersPublish, SeatSound, AsksSit, TurnsSit}
+pub use Rattle.sits.specs.Sitting.{is_region}
 pub use Rattle.heap_core.specs.declared.heaps.Did.{Did}
 pub use Rattle.heap_core.specs.declared.heaps.Stepped.{Stepped}
 pub use Rattle.hook_api.specs.Asked.{AskFacts}
@@ -89,20 +95,32 @@ pub use Rattle.trace_text.specs.declared.faults.LineFault.{LineFault}
 pub use Rattle.trace_text.specs.declared.lines.Line.{Line, Line as SaidLine}
 pub use Rattle.trace_text.specs.declared.lines.Line.TheVariants.{Step, End, Blank, Call, Start, At, Counts as CountsOf}
 pub use Rattle.trace_text.specs.declared.lines.Verb.{Verb}
-pub use Rattle.trace_text.specs.declared.lines.Verb.TheVariants.{CtlPlain, CtlWrite, Take}
-pub use Rattle.replay_run.specs.Answers.{IsAligned, IsAlignedFor, MemalignsAreAligned, Tale, answer_in, tale_fed, tale_in, AnswerCause, AnswersHaveCauses, IsCaused, AllEvents, NowhereCause, answer_begun, no_tales, tale_at, tale_begun, tale_turned, tale_until, tales_after, tales_begun}
-pub use Rattle.replay_run.specs.Causes.{byte_limit, cause_of, fault_cause, first_line, has_newline, line_cause, line_limit, said_cause, verb_cause, status_of}
-pub use Rattle.replay_run.specs.Heads.{answer_line}
+pub use Rattle.trace_text.specs.declared.lines.Verb.TheVariants.{CtlPlain, CtlWrite}
+pub use Rattle.replay_run.specs.Answers.{IsAligned, IsAlignedFor, MemalignsAreAligned, Tale, answer_in, tale_fed, tale_in, AnswerCause, AnswersHaveCauses, IsCaused, AllEvents, NowhereCause, answer_begun, no_tales, request_in, tale_at, tale_begun, tale_turned, tale_until, tales_after, tales_asked, tales_begun}
+pub use Rattle.replay_run.specs.Beginnings.{arena_with, beginning_of, controls_of, ctl_begins, request_begins, request_of, sweep_begins, take_in, target_of}
+pub use Rattle.replay_run.specs.Controls.{ControlFacts, opening_controls, times_at}
+pub use Rattle.replay_run.specs.Sweeps.{SweepFacts, advanced, request_next}
+pub use Rattle.replay_run.specs.declared.beginnings.Beginning.{Beginning}
+pub use Rattle.replay_run.specs.declared.beginnings.Beginning.TheVariants.{Asks as AsksFor, Tells as TellsAt, FindsNone}
+pub use Rattle.replay_run.specs.declared.state.State.{State}
+pub use Rattle.replay_run.specs.declared.sweeps.OpenCall.{OpenCall}
+pub use Rattle.ctl_names.specs.declared.names.CtlError.{CtlError}
+pub use Rattle.ctl_values.specs.declared.steps.CtlStep.{CtlStep}
+pub use Rattle.report_text.specs.declared.controls.CtlAnswer.{CtlAnswer}
+pub use Rattle.replay_run.specs.Causes.{byte_limit, cause_of, fault_cause, first_line, has_newline, line_cause, line_limit, said_cause, status_of}
+pub use Rattle.replay_run.specs.Heads.{answer_line, told_line}
 pub use Rattle.replay_run.specs.Input.{ReadsTo, TakesMore, TakesSome, InBounds, IsFirst, IsUnended, MetEnd}
 pub use Rattle.replay_run.specs.Names.{address_at}
-pub use Rattle.replay_run.specs.Plays.{WorldEvent, IsSound, Read, Began, Turned, Told, Starved, after_event, ask_in, asks_among, world_after, HasSoundHeap, IsNext, line_in, lines_in, shelf_event, shelf_events, AllWorlds, IsPlay, plan_in, client_awaited, IsAskOf, IsWanted}
+pub use Rattle.replay_run.specs.Plays.{WorldEvent, IsSound, Read, Began, WentOn, Turned, Told, Starved, after_event, ask_in, asks_among, world_after, HasSoundHeap, IsNext, line_in, lines_in, shelf_event, shelf_events, AllWorlds, IsPlay, plan_in, client_awaited, IsAskOf, IsWanted, beginning_in}
+pub use Rattle.replay_run.specs.declared.replays.Closing.{Closing}
+pub use Rattle.replay_run.specs.declared.replays.Closing.TheVariants.{Lines}
 pub use Rattle.replay_run.specs.Replays.{IsBadLine, Ending, IsEnding, Open, Prints, ReplayOf, RunOf, ending_text, Bad, Whole}
 pub use Rattle.replay_run.specs.Soaks.{PrintsSoak, SoakOf, IsSoakStatus, soak_text}
 pub use Rattle.replay_run.specs.declared.tally.Tally.{Tally}
-pub use Rattle.replay_run.specs.SoFar.{Between, Halted, StopOf, HasRead, Reached, Now, Outset, EndsHere, GoesOn, Here, is_one_step, world_at, GoesNext, IsUnread, did_line, shown_line, Reading, now_of, reading}
+pub use Rattle.replay_run.specs.SoFar.{Between, Halted, StopOf, HasRead, Reached, Now, Outset, EndsHere, GoesOn, Here, is_one_step, world_at, GoesNext, IsUnread, Starting, StepsOn, beginning_at, did_line, shown_line, step_line, Reading, now_of, reading}
 pub use Rattle.replay_run.specs.Steps.{entry_count, step_limit, steps_of}
 pub use Rattle.replay_run.specs.Stops.{HasStopCause, IsWholeStatus, status_for, status_in}
-pub use Rattle.replay_run.specs.World.{World, Awaits, no_answers, tallied, tally_closed, awaits_or_idle, begins, begun_as, has_open_call, line_read, opening_world, request_of, Memory, Nothing, OneStep, TheEnd, TheEndBefore, TheStart, awaits_after, awaits_begun, awaits_call, names_ended, target_of, counts_text, live_counts, ended_line, names_closed, step_text, stepped, verb_at, verbs_closed, arena_with, take_in, closing_line}
+pub use Rattle.replay_run.specs.World.{World, Awaits, no_answers, tallied, tally_closed, awaits_or_idle, begins, begun_as, call_at, calls_closed, calls_swept, came_to, goes_on, goes_on_with, has_open_call, line_read, opening_world, settled, stepped_on, Memory, Nothing, OneStep, TheEnd, TheEndBefore, TheNext, TheStart, awaits_after, awaits_begun, awaits_call, names_ended, counts_text, live_counts, ended_line, names_closed, step_text, stepped, swept, verb_at, verb_in, closing_line}
 pub use Rattle.replay_run.specs.declared.input.Found.{Found}
 pub use Rattle.replay_run.specs.declared.input.Found.TheVariants.{Line as FoundLine, TooLong}
 pub use Rattle.replay_run.specs.declared.input.Stop.{Stop}
@@ -119,9 +137,9 @@ pub use Rattle.call_plan.specs.Knows.{Heard, Knows}
 pub use Rattle.call_plan.specs.Table.{answered_span, ask_at, done_at, whole_chunks}
 pub use Rattle.call_plan.specs.Words.{Mine, Ask, Alloc, Answer, Placed, Why}
 pub use Rattle.call_plan.specs.declared.needs.Answered.TheVariants.{BadAnswer}
-pub use Rattle.heap_core.specs.Arenas.{reply_in}
+pub use Rattle.sits.specs.Arenas.{reply_in}
 pub use Rattle.heap_core.specs.Chunks.{met_by_alloc}
-pub use Rattle.heap_core.specs.Clients.{mine_in}
+pub use Rattle.sits.specs.Clients.{mine_in}
 pub use Rattle.space_model.specs.Step.{after_grow}
 pub use Rattle.space_model.specs.declared.Reply.TheVariants.{Bad as BadReply}
-pub use Rattle.replay_run.specs.Answers.{IsTrueIn, SpeaksAgainst}
+pub use Rattle.replay_run.specs.Answers.{IsGoneIn, IsTrueIn, SpeaksAgainst}

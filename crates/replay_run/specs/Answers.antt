@@ -14,19 +14,25 @@ use Rattle.call_plan.specs.declared.needs.Request.TheVariants.{Memalign}
 use Rattle.call_plan.specs.Calls.{CallFacts}
 use Rattle.call_plan.specs.Causes.{CauseOf}
 use Rattle.call_plan.specs.Words.{Ask, Alloc, Answer, Placed, Part, Space, Span, Why}
-use Rattle.heap_core.specs.Arenas.{record_at, spaces_of}
+use Rattle.sits.specs.Arenas.{record_at}
+use Rattle.heap_core.specs.Arenas.{spaces_of}
 use Rattle.heap_core.specs.Chunks.{met_by_alloc}
 use Rattle.heap_core.specs.Heaps.{HeapFacts, answered_by, holder_for, moment_after, replied}
-use Rattle.heap_core.specs.Seats.{Seat, answer_of, asked_for, begun, seat_at}
+use Rattle.sits.specs.Seats.{Seat}
+use Rattle.heap_core.specs.Seats.{answer_of, asked_for, begun, seat_at}
 use Rattle.trace_text.specs.declared.lines.Verb.{Verb}
 use Rattle.trace_text.specs.declared.lines.Verb.TheVariants.{Take}
 use Rattle.replay_run.specs.Names.{address_at}
-use Rattle.replay_run.specs.Plays.{AllWorlds, WorldEvent, HasSoundHeap, IsPlay, Began, Turned, Told, after_event}
-use Rattle.replay_run.specs.World.{World, arena_with, opening_world, request_of, target_of}
+use Rattle.replay_run.specs.declared.beginnings.Beginning.{Beginning}
+use Rattle.replay_run.specs.declared.beginnings.Beginning.TheVariants.{Asks, Tells, FindsNone}
+use Rattle.replay_run.specs.Beginnings.{arena_with, target_of}
+use Rattle.replay_run.specs.Plays.{AllWorlds, WorldEvent, HasSoundHeap, IsPlay, Began, Turned, Told, WentOn, after_event, beginning_in}
+use Rattle.replay_run.specs.World.{World, opening_world}
 
 -- ---- what open calls were fed
 
--- The tale of a call: what its client had before it, what was asked for, and what the call was fed since, in order.
+-- The tale of a call: what its client had before it, what was asked for, and what the call was fed since, in order. Where a line
+-- asks for one thing after another, each of them has a tale of its own.
 pub record Tale : Type 0 where
   pub began : DeskFacts
   pub request : Request
@@ -53,23 +59,32 @@ abbrev pub tale_turned : HeapFacts → ℕ → CallFacts → Op → Option ℕ �
 tale_turned h c call op None tale = option_map (tale_fed (replied h c call op)) tale
 tale_turned h c call op (Some holder) tale = tale
 
+-- what a call asks for first, if it asks for anything
+abbrev pub request_in : Beginning → Option Request
+request_in (Asks request sweep) = Some request
+request_in (Tells answer) = None
+request_in FindsNone = None
+
 -- what the call of an event was fed, what the event feeds to it among that; none, where nothing is asked for
 abbrev pub tale_in : World → List (Option Tale) → WorldEvent → Option Tale
-tale_in w tales (Began c verb whole) = option_map (tale_begun w.heap.seats c) (request_of w.heap.records w.names w.moment verb)
+tale_in w tales (Began c verb whole) = option_map (tale_begun w.heap.seats c) (request_in (beginning_in w c verb))
+tale_in w tales (WentOn c request behind) = Some (tale_begun w.heap.seats c request)
 tale_in w tales (Turned c call op asked) = tale_turned w.heap c call op (holder_for w.heap call) (tale_at tales c)
 tale_in w tales (Told c call asked) = option_map (tale_fed (ToldItem asked)) (tale_at tales c)
 tale_in w tales event = None
 
 -- ---- answers
 
--- the answer of a call where it begins, if it has one at once
-abbrev pub answer_begun : World → ℕ → Verb → Option Request → Option Answered
-answer_begun w c verb None = Some (NotHeld (target_of w.names verb))
-answer_begun w c verb (Some request) = answer_of (begun w.heap.seats c request)
+-- the answer of a call where it begins, if it has one at once; what a control tells at once answers no call
+abbrev pub answer_begun : World → ℕ → Verb → Beginning → Option Answered
+answer_begun w c verb (Asks request sweep) = answer_of (begun w.heap.seats c request)
+answer_begun w c verb (Tells answer) = None
+answer_begun w c verb FindsNone = Some (NotHeld (target_of w.names verb))
 
--- the answer that an event gives, if it gives one; where memory was wanting, nothing is answered any more
+-- the answer that an event gives to a request, if it gives one; where memory was wanting, nothing is answered any more
 abbrev pub answer_in : World → WorldEvent → Option Answered
-answer_in w (Began c verb whole) = answer_begun w c verb (request_of w.heap.records w.names w.moment verb)
+answer_in w (Began c verb whole) = answer_begun w c verb (beginning_in w c verb)
+answer_in w (WentOn c request behind) = answer_of (begun w.heap.seats c request)
 answer_in w (Turned c call op asked) = answered_by w.heap c call op (holder_for w.heap call)
 answer_in w (Told c call asked) = answer_of (moment_after w.heap c call (ToldItem asked))
 answer_in w event = None
@@ -79,14 +94,19 @@ abbrev pub tale_until : Option Answered → Option Tale → Option Tale
 tale_until None tale = tale
 tale_until (Some answer) tale = None
 
--- a call that asks for something has a tale, unless it has its answer at once
+-- a request has a tale of its own, unless it has its answer at once
+abbrev pub tales_asked : World → ℕ → Request → List (Option Tale) → List (Option Tale)
+tales_asked w c request tales = slice_set tales c (tale_until (answer_of (begun w.heap.seats c request)) (Some (tale_begun w.heap.seats c request)))
+
+-- so has a call that asks for something
 abbrev pub tales_begun : World → ℕ → Option Request → List (Option Tale) → List (Option Tale)
 tales_begun w c None tales = tales
-tales_begun w c (Some request) tales = slice_set tales c (tale_until (answer_of (begun w.heap.seats c request)) (Some (tale_begun w.heap.seats c request)))
+tales_begun w c (Some request) tales = tales_asked w c request tales
 
 -- the tales of the open calls after an event
 abbrev pub tales_after : World → WorldEvent → List (Option Tale) → List (Option Tale)
-tales_after w (Began c verb whole) tales = tales_begun w c (request_of w.heap.records w.names w.moment verb) tales
+tales_after w (Began c verb whole) tales = tales_begun w c (request_in (beginning_in w c verb)) tales
+tales_after w (WentOn c request behind) tales = tales_asked w c request tales
 tales_after w (Turned c call op asked) tales =
     slice_set tales c (tale_until (answer_in w (Turned c call op asked)) (tale_in w tales (Turned c call op asked)))
 tales_after w (Told c call asked) tales = slice_set tales c (tale_until (answer_in w (Told c call asked)) (tale_in w tales (Told c call asked)))

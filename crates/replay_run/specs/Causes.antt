@@ -2,13 +2,11 @@
 use Rattle.std.specs.Prelude.{ℕ, ◌==◌, Bool, not, List, [], ◌∷◌, Option, None, Some, Result, Ok, Err, length, nat_lt, if◌then◌else◌}
 use Rattle.std.specs.List.{list_any}
 use Rattle.report_text.specs.declared.causes.Cause.{Cause}
-use Rattle.report_text.specs.declared.causes.Cause.TheVariants.{LimitLines, LimitBytes, Cut, Bytes, Words, Number, LimitThreads, Range, Clock, Phase, Unbuilt}
+use Rattle.report_text.specs.declared.causes.Cause.TheVariants.{LimitLines, LimitBytes, Cut, Bytes, Words, Number, LimitThreads, Range, Clock, Phase}
 use Rattle.trace_text.specs.declared.faults.LineFault.{LineFault}
 use Rattle.trace_text.specs.declared.faults.LineFault.TheVariants as fault
 use Rattle.trace_text.specs.declared.lines.Line.{Line}
 use Rattle.trace_text.specs.declared.lines.Line.TheVariants as line
-use Rattle.trace_text.specs.declared.lines.Verb.{Verb}
-use Rattle.trace_text.specs.declared.lines.Verb.TheVariants.{CtlPlain, CtlWrite}
 use Rattle.trace_text.specs.Grammar.{line_of}
 
 -- how many lines a trace has at most
@@ -37,17 +35,9 @@ fault_cause fault.Number = Some Number
 fault_cause fault.Threads = Some LimitThreads
 fault_cause fault.Range = Some Range
 
--- why a call isn't carried out: those of `ctl` aren't built yet
-abbrev pub verb_cause : Verb → Option Cause
-verb_cause (CtlPlain name) = Some Unbuilt
-verb_cause (CtlWrite name value) = Some Unbuilt
-verb_cause verb = None
-
 -- why a line that is read isn't carried out at a moment: its own moment is below that, or it is about phases
 abbrev pub line_cause : ℕ → Line → Option Cause
 line_cause now (line.At moment) = if nat_lt moment now then Some Clock else None
-line_cause now (line.Call c verb) = verb_cause verb
-line_cause now (line.Start c verb) = verb_cause verb
 line_cause now line.Phase = Some Phase
 line_cause now line.Join = Some Phase
 line_cause now line = None

@@ -1,5 +1,9 @@
 pub mod Names
+pub mod Counts
 pub mod Heads
+pub mod Sweeps
+pub mod Controls
+pub mod Beginnings
 pub mod World
 pub mod Causes
 pub mod Plays
@@ -10,3 +14,5 @@ pub mod Soaks
 pub mod SoFar
 pub mod Steps
 pub mod Answers
+pub mod Served
+pub mod Leaving

@@ -9,7 +9,8 @@ use Rattle.call_plan.specs.Stages.{Go, Point}
 use Rattle.call_plan.specs.Calls.{CallFacts}
 use Rattle.call_plan.specs.Items.{Told as ToldItem}
 use Rattle.call_plan.specs.Table.{Want, WantAsk, WantTurn, is_marked, want}
-use Rattle.heap_core.specs.Arenas.{IsArenas, record_at}
+use Rattle.heap_core.specs.Arenas.{IsArenas}
+use Rattle.sits.specs.Arenas.{record_at}
 use Rattle.heap_core.specs.Heaps.{HeapFacts, answered_by, holder_for, moment_after, starved_on, told_to, turned_for}
 use Rattle.heap_core.specs.Seats.{answer_of, seat_at}
 use Rattle.heap_core.specs.Sitting.{SeatSound}
@@ -17,14 +18,19 @@ use Rattle.report_text.specs.Lines.{ask_line, turn_line}
 use Rattle.trace_text.specs.declared.lines.Line.{Line}
 use Rattle.trace_text.specs.declared.lines.Line.TheVariants.{Refuse}
 use Rattle.trace_text.specs.declared.lines.Verb.{Verb}
+use Rattle.call_plan.specs.declared.needs.Request.{Request}
+use Rattle.replay_run.specs.declared.beginnings.Beginning.{Beginning}
+use Rattle.replay_run.specs.Beginnings.{beginning_of}
 use Rattle.replay_run.specs.Causes.{line_cause}
-use Rattle.replay_run.specs.World.{Awaits, Memory, Nothing, OneStep, TheEnd, TheEndBefore, TheStart, World, begins, line_read, request_of, stepped}
+use Rattle.replay_run.specs.World.{Awaits, Memory, Nothing, OneStep, TheEnd, TheEndBefore, TheStart, TheNext, World, begins, goes_on_with, line_read, settled, stepped}
 
--- What happens to a world: a line is read; the call that is waited for begins; a turn is made for a client's open call, or an
--- ask of it is answered; or memory was wanting for a turn, or to name what goes back by it, and then no turn was made.
+-- What happens to a world: a line is read; the call that is waited for begins, or the next request of one; a turn is made for a
+-- client's open call, or an ask of it is answered; or memory was wanting for a turn, or to name what goes back by it, and then no
+-- turn was made.
 pub data WorldEvent : Type 0 where
   Read : Line → WorldEvent
   Began : (client : ℕ) (verb : Verb) (whole : Bool) → WorldEvent
+  WentOn : (client : ℕ) (request : Request) (behind : Awaits) → WorldEvent
   Turned : (client : ℕ) (call : CallFacts) (op : Op) (asked : Option AskFacts) → WorldEvent
   Told : (client : ℕ) (call : CallFacts) (asked : AskFacts) → WorldEvent
   Starved : (client : ℕ) (call : CallFacts) → WorldEvent
@@ -33,10 +39,15 @@ pub data WorldEvent : Type 0 where
 abbrev pub ran_out : World → HeapFacts → World
 ran_out w heap = record w { heap = heap; awaits = Memory }
 
+-- what the call of a line comes to
+abbrev pub beginning_in : World → ℕ → Verb → Beginning
+beginning_in w c verb = beginning_of w.heap w.names w.controls w.moment c verb
+
 -- the world after an event
 abbrev pub after_event : World → WorldEvent → World
 after_event w (Read line) = line_read w line
-after_event w (Began c verb whole) = begins w c verb whole (request_of w.heap.records w.names w.moment verb)
+after_event w (Began c verb whole) = begins (settled w verb) c verb whole (beginning_in w c verb)
+after_event w (WentOn c request behind) = goes_on_with w c request behind
 after_event w (Turned c call op asked) =
     stepped w c (turned_for w.heap c call op asked (holder_for w.heap call)) (turn_line c) (answered_by w.heap c call op (holder_for w.heap call))
 after_event w (Told c call asked) =
@@ -67,6 +78,7 @@ pub record IsAskOf (w : World) (call : CallFacts) (asked : AskFacts) : Type 0 wh
 abbrev pub IsNext : World → WorldEvent → Type 0
 IsNext w (Read line) = (w.awaits ≡ Nothing) × (line_cause w.moment line ≡ None)
 IsNext w (Began c verb whole) = w.awaits ≡ TheStart c verb whole
+IsNext w (WentOn c request behind) = w.awaits ≡ TheNext c request behind
 IsNext w (Turned c call op asked) = IsWanted w c call (WantTurn op asked)
 IsNext w (Told c call asked) = IsWanted w c call (WantAsk asked.ask) × IsAskOf w call asked
 IsNext w (Starved c call) = (op : Op) × (asked : Option AskFacts) × IsWanted w c call (WantTurn op asked) × (is_marked op ≡ true)

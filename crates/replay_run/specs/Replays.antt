@@ -8,8 +8,13 @@ use Rattle.hook_api.specs.declared.kept.Journal.{Journal}
 use Rattle.heap_core.specs.Arenas.{journal_of}
 use Rattle.report_text.specs.declared.causes.Cause.{Cause}
 use Rattle.report_text.specs.declared.causes.Cause.TheVariants.{Cut}
-use Rattle.report_text.specs.Lines.{bad_line}
+use Rattle.report_text.specs.Lines.{bad_line, newline}
+use Rattle.heap_core.specs.Heaps.{HeapFacts}
+use Rattle.heap_stats.specs.Json.{json_text}
 use Rattle.trace_text.specs.Lines.{HasNoNewline}
+use Rattle.replay_run.specs.declared.replays.Closing.{Closing}
+use Rattle.replay_run.specs.declared.replays.Closing.TheVariants.{Lines, Json}
+use Rattle.replay_run.specs.Counts.{all_counts}
 use Rattle.replay_run.specs.Causes.{byte_limit, cause_of, first_line, has_newline, line_limit, status_of}
 use Rattle.replay_run.specs.Input.{ReadsTo}
 use Rattle.replay_run.specs.Plays.{AllWorlds, WorldEvent, HasSoundHeap, IsPlay, asks_among, lines_in, shelf_events, world_after}
@@ -32,11 +37,20 @@ pub data Ending : Type 0 where
   Bad : Cause → Ending
   Open : Ending
 
--- its text, behind so many lines
-abbrev pub ending_text : World → ℕ → Ending → List ℕ
-ending_text w count Whole = closing w.heap
-ending_text w count (Bad cause) = bad_line (count + 1) cause
-ending_text w count Open = []
+-- the counts of the live arenas as one line of JSON
+abbrev pub json_line : HeapFacts → List ℕ
+json_line h = json_text (all_counts h.records) ++ newline
+
+-- the counts of the live arenas at the end of a replay, told in this form
+abbrev pub closing_in : Closing → HeapFacts → List ℕ
+closing_in Lines h = closing h
+closing_in Json h = json_line h
+
+-- its text, behind so many lines, where the counts are told in this form
+abbrev pub ending_text : Closing → World → ℕ → Ending → List ℕ
+ending_text form w count Whole = closing_in form w.heap
+ending_text form w count (Bad cause) = bad_line (count + 1) cause
+ending_text form w count Open = []
 
 -- An ending is right where so many lines were carried out and these bytes are left of those that were taken: the counts where
 -- none is left and the source has met its end, and a bad line where the next one is bad.
@@ -53,11 +67,11 @@ IsWithinTrace count rest = (length rest ≤ byte_limit) × (count ≡ line_limit
 -- What was printed where a replay ends with a status is the beginning of a report: the text of the play and its ending. It is
 -- the whole report at status 0, with the counts; at status 3 and 7, with the bad line whose cause has that status; and at
 -- status 4, without an ending, where all lines that were taken whole were carried out, and no limit was passed.
-pub record Prints (status : ℕ) (w : World) (count : ℕ) (rest : List ℕ) (ending : Ending) (before after : Option (List ℕ)) : Type 0 where
-  pub beginning : AppendsPrefix before after (w.text ++ ending_text w count ending)
-  pub whole : status ≡ 0 → (ending ≡ Whole) × Appends before after (w.text ++ ending_text w count ending)
-  pub refused : status ≡ 3 → (cause : Cause) × (ending ≡ Bad cause) × (status_of cause ≡ 3) × Appends before after (w.text ++ ending_text w count ending)
-  pub limited : status ≡ 7 → (cause : Cause) × (ending ≡ Bad cause) × (status_of cause ≡ 7) × Appends before after (w.text ++ ending_text w count ending)
+pub record Prints (form : Closing) (status : ℕ) (w : World) (count : ℕ) (rest : List ℕ) (ending : Ending) (before after : Option (List ℕ)) : Type 0 where
+  pub beginning : AppendsPrefix before after (w.text ++ ending_text form w count ending)
+  pub whole : status ≡ 0 → (ending ≡ Whole) × Appends before after (w.text ++ ending_text form w count ending)
+  pub refused : status ≡ 3 → (cause : Cause) × (ending ≡ Bad cause) × (status_of cause ≡ 3) × Appends before after (w.text ++ ending_text form w count ending)
+  pub limited : status ≡ 7 → (cause : Cause) × (ending ≡ Bad cause) × (status_of cause ≡ 7) × Appends before after (w.text ++ ending_text form w count ending)
   pub cut_off : status ≡ 4 → (ending ≡ Open) × IsComplete w × HasNoNewline rest × Appends before after w.text
   pub within : status ≡ 4 → IsWithinTrace count rest
 
@@ -71,8 +85,8 @@ pub record RunOf (journals : List Journal) (heard : List AskFacts) (shelf_before
   pub chain : Chain shelf_before (shelf_events events) shelf_after
 
 -- Events were carried out whose lines are those at the beginning of the bytes that were taken, and what stands behind them and
--- what was printed is as the status says.
-pub record ReplayOf (status : ℕ) (journals : List Journal) (heard : List AskFacts) (shelf_before shelf_after : Shelf)
+-- what was printed is as the status says, with the counts in this form.
+pub record ReplayOf (form : Closing) (status : ℕ) (journals : List Journal) (heard : List AskFacts) (shelf_before shelf_after : Shelf)
     (met : Bool) (left_before left before after : Option (List ℕ)) : Type 0 where
   pub events : List WorldEvent
   pub ran : RunOf journals heard shelf_before shelf_after events
@@ -83,7 +97,7 @@ pub record ReplayOf (status : ℕ) (journals : List Journal) (heard : List AskFa
   pub few : length (lines_in events) ≤ line_limit
   pub ending : Ending
   pub ends : IsEnding (world_after opening_world events) (length (lines_in events)) rest left met ending
-  pub prints : Prints status (world_after opening_world events) (length (lines_in events)) rest ending before after
+  pub prints : Prints form status (world_after opening_world events) (length (lines_in events)) rest ending before after
 
 -- Nothing was done for want of memory: nothing was taken of a source, the shelf was asked nothing, nothing was heard, and nothing
 -- was printed.

@@ -1,7 +1,7 @@
 -- How many steps a heap has behind it.
 use Rattle.std.specs.Prelude.{ℕ, ◌+◌, ◌*◌, ◌^◌, length}
 use Rattle.std.specs.List.{sum_by}
-use Rattle.heap_core.specs.Records.{Record}
+use Rattle.recorded_arena.specs.Records.{Record}
 use Rattle.heap_core.specs.Heaps.{HeapFacts}
 
 -- how many entries the journal of an arena has

@@ -1,48 +1,54 @@
 -- Worlds: everything that the rest of a replay can depend on, and how a line, a turn or an ask leads from one to the next.
-use Rattle.std.specs.Prelude.{ℕ, ◌+◌, ◌-◌, ◌/◌, ◌^◌, ℤ, min, pos, Bool, true, false, List, [], ◌++◌, Option, None, Some, if◌then◌else◌, is_none, is_some, replicate, slice_index_or, slice_set}
-use Rattle.std.specs.List.{flat_map, list_any, position, range_with_len}
+use Rattle.std.specs.Prelude.{ℕ, ◌+◌, ◌-◌, ◌^◌, min, Bool, true, false, List, [], ◌++◌, Option, None, Some, if◌then◌else◌, is_none, is_some, replicate, slice_index_or, slice_set}
+use Rattle.std.specs.List.{flat_map, range_with_len}
+use Rattle.std.specs.Option.{option_map}
 use Rattle.space_model.specs.declared.Counts.{Counts}
-use Rattle.space_model.specs.declared.Rest.{Rest}
-use Rattle.space_model.specs.declared.Rest.TheVariants.{Dirty, Muzzy}
 use Rattle.space_model.specs.declared.Space.{Space}
 use Rattle.space_model.specs.Counts.{counts_of}
-use Rattle.space_model.specs.Span.{has_page}
 use Rattle.call_plan.specs.declared.needs.Answered.{Answered}
 use Rattle.call_plan.specs.declared.needs.Answered.TheVariants.{Ok, NotHeld}
 use Rattle.call_plan.specs.declared.needs.Given.TheVariants.{Region}
 use Rattle.call_plan.specs.declared.needs.Request.{Request}
-use Rattle.call_plan.specs.declared.needs.Request.TheVariants as request
-use Rattle.heap_core.specs.Arenas.{record_at, where_live}
-use Rattle.heap_core.specs.Records.{Record}
+use Rattle.sits.specs.Arenas.{record_at}
+use Rattle.heap_core.specs.Arenas.{where_live}
 use Rattle.heap_core.specs.Heaps.{HeapFacts, opening_heap, started}
 use Rattle.heap_core.specs.Seats.{answer_of, begun, seat_at}
 use Rattle.report_text.specs.Lines.{counts_line, idle_line, no_arena_line}
 use Rattle.trace_text.specs.declared.lines.Verb.{Verb}
-use Rattle.trace_text.specs.declared.lines.Verb.TheVariants.{Malloc, Memalign, Free, Publish, Take, Purge, Decay, Time, Reset, Destroy, Create, Bind, Cache, Flush}
+use Rattle.trace_text.specs.declared.lines.Verb.TheVariants.{Malloc, Memalign}
 use Rattle.trace_text.specs.declared.lines.Line.{Line}
 use Rattle.trace_text.specs.declared.lines.Line.TheVariants.{Call, Start, Step, End, At, Counts as CountsOf}
+use Rattle.replay_run.specs.declared.beginnings.Beginning.{Beginning}
+use Rattle.replay_run.specs.declared.beginnings.Beginning.TheVariants.{Asks, Tells, FindsNone}
+use Rattle.replay_run.specs.declared.sweeps.OpenCall.{OpenCall}
 use Rattle.replay_run.specs.declared.tally.Tally.{Tally}
-use Rattle.replay_run.specs.Names.{address_at, named}
-use Rattle.replay_run.specs.Heads.{answer_line}
+use Rattle.replay_run.specs.Beginnings.{controls_of, target_of}
+use Rattle.replay_run.specs.Controls.{ControlFacts, opening_controls}
+use Rattle.replay_run.specs.Heads.{answer_line, told_line}
+use Rattle.replay_run.specs.Names.{named}
+use Rattle.replay_run.specs.Sweeps.{SweepFacts, advanced, request_next}
 
 -- What a world waits for before the next line is read: nothing; one step of a client's open call; its end; its end, behind
--- which this call of the client begins, and is carried out to its end or not; or that beginning. Nothing more comes where
--- memory was wanting.
+-- which this call of the client begins, and is carried out to its end or not; that beginning; or the next request of an open
+-- call, behind which this is waited for. Nothing more comes where memory was wanting.
 pub data Awaits : Type 0 where
   Nothing : Awaits
   OneStep : (client : ℕ) → Awaits
   TheEnd : (client : ℕ) → Awaits
   TheEndBefore : (client : ℕ) (verb : Verb) (whole : Bool) → Awaits
   TheStart : (client : ℕ) (verb : Verb) (whole : Bool) → Awaits
+  TheNext : (client : ℕ) (request : Request) (behind : Awaits) → Awaits
   Memory : Awaits
 
 -- A world: the heap, what each client's open call is, the names that are bound, each with its address, how many calls have
--- answered Ok and how many otherwise, the moment in nanoseconds, the text of the lines so far, and what is waited for.
+-- answered Ok and how many otherwise, what controls read and write beside the heap, the moment in nanoseconds, the text of the
+-- lines so far, and what is waited for.
 pub record World : Type 0 where
   pub heap : HeapFacts
-  pub verbs : List (Option Verb)
+  pub calls : List (Option OpenCall)
   pub names : List (List ℕ × ℕ)
   pub tally : Tally
+  pub controls : ControlFacts
   pub moment : ℕ
   pub text : List ℕ
   pub awaits : Awaits
@@ -55,81 +61,30 @@ no_answers = record { good = 0; failed = 0 }
 abbrev pub opening_world : World
 opening_world = record {
   heap = opening_heap;
-  verbs = replicate 32 None;
+  calls = replicate 32 None;
   names = [];
   tally = no_answers;
+  controls = opening_controls;
   moment = 0;
   text = [];
   awaits = Nothing;
 }
 
 -- what a client's open call is
-abbrev pub verb_at : List (Option Verb) → ℕ → Option Verb
-verb_at verbs c = slice_index_or verbs c None
+abbrev pub call_at : List (Option OpenCall) → ℕ → Option OpenCall
+call_at calls c = slice_index_or calls c None
+
+-- what the line of an open call said, if there is one
+abbrev pub verb_in : Option OpenCall → Option Verb
+verb_in call = option_map (λ call. call.verb) call
+
+-- what the line of a client's open call said
+abbrev pub verb_at : List (Option OpenCall) → ℕ → Option Verb
+verb_at calls c = verb_in (call_at calls c)
 
 -- whether a client has an open call
 abbrev pub has_open_call : HeapFacts → ℕ → Bool
 has_open_call h c = is_some (seat_at h.seats c).call
-
--- ---- what a line asks for
-
--- the decay time of the dirty extents of an arena that comes to be, in milliseconds
-abbrev pub dirty_default : ℤ
-dirty_default = pos 10000
-
--- the same of the muzzy ones
-abbrev pub muzzy_default : ℤ
-muzzy_default = pos 0
-
--- the index of the arena of which an extent has the page of an address, if there is one
-abbrev pub arena_with : List Record → ℕ → Option ℕ
-arena_with records addr = position (λ r. list_any (λ p. has_page (addr / 4096) p.span) r.space.parts) records
-
--- a take of the region at an address, in the arena of which an extent has it
-abbrev pub take_in : ℕ → Option ℕ → Option Request
-take_in addr None = None
-take_in addr (Some arena) = Some (request.Take addr arena)
-
--- the list of extents of which a line sets the decay time: the dirty one, or else the muzzy one
-abbrev pub decay_list : Rest → Rest
-decay_list Dirty = Dirty
-decay_list rest = Muzzy
-
--- what a call asks for that is about regions; nothing, for another one and where no arena has an extent at the address
-abbrev pub region_request : List Record → List (List ℕ × ℕ) → Verb → Option Request
-region_request records names (Malloc name size) = Some (request.Malloc size)
-region_request records names (Memalign name align size) = Some (request.Memalign align size)
-region_request records names (Free target) = Some (request.Free (address_at names target))
-region_request records names (Publish target) = Some (request.Publish (address_at names target))
-region_request records names (Take target) = take_in (address_at names target) (arena_with records (address_at names target))
-region_request records names verb = None
-
--- what a call asks for at a moment that is about an arena or about what its client keeps, if it is one
-abbrev pub arena_request : ℕ → Verb → Option Request
-arena_request now (Purge index) = Some (request.Purge index)
-arena_request now (Decay index) = Some (request.Decay index now)
-arena_request now (Time index rest ms) = Some (request.Time index (decay_list rest) ms now)
-arena_request now (Reset index) = Some (request.Reset index)
-arena_request now (Destroy index) = Some (request.Destroy index)
-arena_request now (Create box_no) = Some (request.Create box_no dirty_default muzzy_default now)
-arena_request now (Bind index) = Some (request.Bind index)
-arena_request now (Cache on) = Some (request.Cache on)
-arena_request now Flush = Some request.Flush
-arena_request now verb = None
-
--- the first of two requests, or else the second
-abbrev pub first_request : Option Request → Option Request → Option Request
-first_request (Some request) other = Some request
-first_request None other = other
-
--- What a call of a line asks for at a moment: nothing, for a take of what no arena has and for a call of `ctl`.
-abbrev pub request_of : List Record → List (List ℕ × ℕ) → ℕ → Verb → Option Request
-request_of records names now verb = first_request (arena_request now verb) (region_request records names verb)
-
--- the address that a call which asks for nothing looked for
-abbrev pub target_of : List (List ℕ × ℕ) → Verb → ℕ
-target_of names (Take target) = address_at names target
-target_of names verb = 0
 
 -- ---- how calls end and begin
 
@@ -159,17 +114,23 @@ abbrev pub awaits_begun : ℕ → Bool → Awaits
 awaits_begun c true = TheEnd c
 awaits_begun c false = Nothing
 
--- a call that has begun is open, or has its answer at once
-abbrev pub begun_as : World → ℕ → Verb → Bool → Option Answered → World
-begun_as w c verb whole (Some answer) =
+-- a call that has begun is open, with what is left of its sweep, or has its answer at once
+abbrev pub begun_as : World → ℕ → Verb → Bool → Option SweepFacts → Option Answered → World
+begun_as w c verb whole sweep (Some answer) =
     record w { text = w.text ++ answer_line c verb answer; names = names_ended w.names verb answer; tally = tallied w.tally answer; awaits = Nothing }
-begun_as w c verb whole None = record w { verbs = slice_set w.verbs c (Some verb); awaits = awaits_begun c whole }
+begun_as w c verb whole sweep None = record w { calls = slice_set w.calls c (Some (record { verb = verb; sweep = sweep })); awaits = awaits_begun c whole }
 
--- a call of a client begins
-abbrev pub begins : World → ℕ → Verb → Bool → Option Request → World
-begins w c verb whole None = begun_as w c verb whole (Some (NotHeld (target_of w.names verb)))
-begins w c verb whole (Some request) =
-    begun_as (record w { heap = started w.heap c request }) c verb whole (answer_of (begun w.heap.seats c request))
+-- a call of a client begins, by what it comes to: it asks for something, is a line of a control that tells this at once, or
+-- looked for a region where no arena has an extent
+abbrev pub begins : World → ℕ → Verb → Bool → Beginning → World
+begins w c verb whole (Asks request sweep) =
+    begun_as (record w { heap = started w.heap c request }) c verb whole sweep (answer_of (begun w.heap.seats c request))
+begins w c verb whole (Tells answer) = record w { text = w.text ++ told_line c verb answer; awaits = Nothing }
+begins w c verb whole FindsNone = begun_as w c verb whole None (Some (NotHeld (target_of w.names verb)))
+
+-- the world where the line of a control has set what it sets
+abbrev pub settled : World → Verb → World
+settled w verb = record w { controls = controls_of w.heap.records w.controls w.moment verb }
 
 -- what is waited for behind a step of a call that was waited for, which goes on or has ended
 abbrev pub awaits_after : Awaits → Bool → Awaits
@@ -194,26 +155,64 @@ tally_closed tally (Some answer) = tallied tally answer
 tally_closed tally None = tally
 
 -- what the open calls are once a client's call has its answer, if it has
-abbrev pub verbs_closed : List (Option Verb) → ℕ → Option Answered → List (Option Verb)
-verbs_closed verbs c (Some answer) = slice_set verbs c None
-verbs_closed verbs c None = verbs
+abbrev pub calls_closed : List (Option OpenCall) → ℕ → Option Answered → List (Option OpenCall)
+calls_closed calls c (Some answer) = slice_set calls c None
+calls_closed calls c None = calls
 
 -- the line of a step is printed where one step was waited for
 abbrev pub step_text : Awaits → List ℕ → List ℕ
 step_text (OneStep c) line = line
 step_text awaits line = []
 
--- A step of a client's open call leads to this heap, prints this line, and ends the call with this answer, if it does; that is
--- printed behind it.
-abbrev pub stepped : World → ℕ → HeapFacts → List ℕ → Option Answered → World
-stepped w c heap line answer = record w {
+-- A client's open call came to this heap, prints this line, and ends with this answer, if it does; that is printed behind it.
+abbrev pub came_to : World → ℕ → HeapFacts → List ℕ → Option Answered → World
+came_to w c heap line answer = record w {
   heap = heap;
-  verbs = verbs_closed w.verbs c answer;
-  names = names_closed w.names (verb_at w.verbs c) answer;
+  calls = calls_closed w.calls c answer;
+  names = names_closed w.names (verb_at w.calls c) answer;
   tally = tally_closed w.tally answer;
-  text = w.text ++ (step_text w.awaits line ++ ended_line c (verb_at w.verbs c) answer);
+  text = w.text ++ (step_text w.awaits line ++ ended_line c (verb_at w.calls c) answer);
   awaits = awaits_after w.awaits (is_none answer);
 }
+
+-- the next request of a sweep, if there is a sweep and an arena is left
+abbrev pub sweep_next : Option SweepFacts → Option Request
+sweep_next None = None
+sweep_next (Some sweep) = request_next sweep
+
+-- what an open call asks for next where a request of it has this answer: only a sweep goes on, and only behind an Ok
+abbrev pub goes_on : Option OpenCall → Option Answered → Option Request
+goes_on (Some call) (Some (Ok given)) = sweep_next call.sweep
+goes_on call answer = None
+
+-- an open call of which the next request of its sweep isn't left any more
+abbrev pub swept : OpenCall → OpenCall
+swept call = record call { sweep = option_map advanced call.sweep }
+
+-- the open calls where a client's one has begun with that
+abbrev pub calls_swept : List (Option OpenCall) → ℕ → List (Option OpenCall)
+calls_swept calls c = slice_set calls c (option_map swept (call_at calls c))
+
+-- a step of a client's open call leads to this heap and prints this line; the request that it carries on has this answer, if it
+-- has ended, and then the call goes on with this request, or it ends with that answer
+abbrev pub stepped_on : World → ℕ → HeapFacts → List ℕ → Option Answered → Option Request → World
+stepped_on w c heap line answer None = came_to w c heap line answer
+stepped_on w c heap line answer (Some request) = record w {
+  heap = heap;
+  calls = calls_swept w.calls c;
+  text = w.text ++ step_text w.awaits line;
+  awaits = TheNext c request w.awaits;
+}
+
+-- A step of a client's open call leads to this heap, and prints this line; the request that it carries on has this answer, if it
+-- has ended.
+abbrev pub stepped : World → ℕ → HeapFacts → List ℕ → Option Answered → World
+stepped w c heap line answer = stepped_on w c heap line answer (goes_on (call_at w.calls c) answer)
+
+-- the next request of a client's open call begins, behind which this is waited for
+abbrev pub goes_on_with : World → ℕ → Request → Awaits → World
+goes_on_with w c request behind =
+    came_to (record w { awaits = behind }) c (started w.heap c request) [] (answer_of (begun w.heap.seats c request))
 
 -- ---- lines
 

@@ -6,7 +6,7 @@ ghost use Rattle.trace_text.specs.Lines.{HasNoNewline};
 ghost use Rattle.replay_run.specs.declared.input.Stop.TheVariants.{ReadFault};
 ghost use Rattle.replay_run.specs.Stops.{HasStopCause};
 ghost use Rattle.trace_text.specs.declared.faults.LineFault.TheVariants.{NoMemory as FaultNoMemory};
-ghost use Rattle.replay_run.specs.Causes.{fault_cause, line_cause, verb_cause};
+ghost use Rattle.replay_run.specs.Causes.{fault_cause, line_cause};
 ghost use Rattle.replay_run.specs.Input.{InBounds, IsFirst, IsReading, MetEnd, TakesSome, TakesMore, TakesAny};
 
 use crate::prints::flush;
@@ -15,7 +15,7 @@ use memchr::memchr;
 use report_text::Cause;
 use std::alloc::{AllocError as NoMemory, Global};
 use std::marker::Model;
-use trace_text::{Line, LineFault, Verb};
+use trace_text::{Line, LineFault};
 
 /// How many bytes a line has at most, without its newline.
 const LINE_BYTES: usize = 256;
@@ -247,18 +247,7 @@ fn cause_of_line(now: u64, line: &Line) -> Option<Cause>
 {
     match line {
         Line::At(moment) if *moment < now => Some(Cause::Clock),
-        Line::Call { verb, .. } | Line::Start { verb, .. } => cause_of_verb(verb),
         Line::Phase | Line::Join => Some(Cause::Phase),
-        _ => None,
-    }
-}
-
-/// Why a call isn't carried out, if there is a cause.
-fn cause_of_verb(verb: &Verb) -> Option<Cause>
-    ensures { result ≡ verb_cause verb.now }
-{
-    match verb {
-        Verb::CtlPlain(_) | Verb::CtlWrite { .. } => Some(Cause::Unbuilt),
         _ => None,
     }
 }

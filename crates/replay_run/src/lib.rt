@@ -5,18 +5,21 @@
 //! the heap that the lines ask for, one event each, and prints what that event prints.
 #![tactic(auto)]
 
+mod beginnings;
 mod calls;
+mod controls;
+mod counts;
 mod input;
 mod laws;
 mod lines;
 mod names;
 mod prints;
 mod replays;
-mod requests;
 mod soaks;
 mod state;
+mod sweeps;
 mod tally;
 
 pub use laws::{answers_have_causes, memaligns_are_aligned};
-pub use replays::{Replayed, replay};
+pub use replays::{Closing, Replayed, replay};
 pub use soaks::soak;

@@ -7,18 +7,21 @@ ghost use Rattle.heap_core.specs.Arenas.{journal_of};
 ghost use Rattle.heap_core.specs.Heaps.{opening_heap};
 ghost use Rattle.report_text.specs.Lines.{bad_line};
 ghost use Rattle.replay_run.specs.Causes.{line_limit, status_of};
-ghost use Rattle.replay_run.specs.Replays.{DoesNothing, HandsOut, ReplayOf};
+ghost use Rattle.replay_run.specs.Replays.{DoesNothing, HandsOut, ReplayOf, closing_in, json_line};
 ghost use Rattle.replay_run.specs.SoFar.{Between, GoesNext, IsUnread, Outset, now_of, reading};
 ghost use Rattle.replay_run.specs.Stops.{HasStopCause, IsReplayStatus, IsWholeStatus, status_in};
 ghost use Rattle.replay_run.specs.declared.input.Stop.TheVariants.{ReadFault, WriteFault};
+ghost use Rattle.replay_run.specs.Controls.{opening_controls};
 ghost use Rattle.replay_run.specs.World.{closing, closing_line, live_counts, no_answers};
 
+use crate::counts::all_counts;
 use crate::input::{Found, Pending, Stop, find_line, has_more, read_line};
 use crate::lines::carry_line;
 use crate::prints::{flush, print};
 use crate::state::State;
 use edge_io::{Sink, Source};
 use heap_core::ARENAS;
+use heap_stats::json;
 use hook_api::{Askeds, ExtentHooks, HookShelf, Journals};
 use report_text::{Cause, bad_line, counts_line};
 use space_model::Counts;
@@ -57,6 +60,15 @@ pub struct Replayed<H: ExtentHooks> {
     pub journals: Journals,
     /// Every ask of the run, in order.
     pub heard: Askeds,
+}
+
+/// How a replay tells the counts of the live arenas at its end.
+#[derive(Clone, Copy, Debug, PartialEq, Eq)]
+pub enum Closing {
+    /// By a count line for each.
+    Lines,
+    /// By one line of compact JSON.
+    Json,
 }
 
 /// What a look for the next line led to.
@@ -173,16 +185,36 @@ pub fn print_last<K: Sink>(sink: &mut K, text: Result<Vec<u8>, NoMemory>) -> Res
     Ok(DONE)
 }
 
-/// Prints the closing lines, and gives the status.
-fn close<K: Sink>(alloc: Global, sink: &mut K, state: &State) -> Result<u8, Stop>
+/// The counts of the live arenas as one line of compact JSON.
+fn closing_json(alloc: Global, state: &State) -> Result<Vec<u8>, NoMemory>
+    ensures { IfOk result (λ text. text.items ≡ json_line state.now.heap) }
+{
+    let counts = all_counts(&state.heap);
+    let mut text = json(alloc, &counts)?.into_bytes();
+    text.push(b'\n')?;
+    Ok(text)
+}
+
+/// The text of the counts at the end, in this form.
+fn closing_in(alloc: Global, state: &State, closing: Closing) -> Result<Vec<u8>, NoMemory>
+    ensures { IfOk result (λ text. text.items ≡ closing_in closing state.now.heap) }
+{
+    match closing {
+        Closing::Lines => closing_text(alloc, state),
+        Closing::Json => closing_json(alloc, state),
+    }
+}
+
+/// Prints the counts at the end, and gives the status.
+fn close<K: Sink>(alloc: Global, sink: &mut K, state: &State, closing: Closing) -> Result<u8, Stop>
     ensures status { IfOk result (λ told. told ≡ 0) }
-    ensures text { OnOk result (Appends (K.held sink.old) (K.held sink.new) (closing state.now.heap)) }
-    ensures beginning { OnErr result (AppendsPrefix (K.held sink.old) (K.held sink.new) (closing state.now.heap)) }
+    ensures text { OnOk result (Appends (K.held sink.old) (K.held sink.new) (closing_in closing state.now.heap)) }
+    ensures beginning { OnErr result (AppendsPrefix (K.held sink.old) (K.held sink.new) (closing_in closing state.now.heap)) }
     ensures cause { IfErr result (λ stop. HasStopCause stop 0 0 (K.faults sink.old) (K.faults sink.new)) }
     ensures unfailed { OnOk result (K.faults sink.new ≡ K.faults sink.old) }
     ensures sink_counts { K.faults sink.old ≤ K.faults sink.new }
 {
-    print_last(sink, closing_text(alloc, state))
+    print_last(sink, closing_in(alloc, state, closing))
 }
 
 /// Carries out the lines of the source, and gives the status: 0, or that of the first bad line.
@@ -192,13 +224,15 @@ fn run_lines<S: Source, K: Sink, H: ExtentHooks>(
     sink: &mut K,
     shelf: &mut HookShelf<H>,
     state: &mut State,
+    closing: Closing,
 ) -> Result<u8, Stop>
     requires heap { state.old.heap ≡ opening_heap }
-    requires verbs { state.old.verbs.items ≡ replicate 32 None }
+    requires calls { state.old.calls.items ≡ replicate 32 None }
     requires names { state.old.names ≡ [] }
     requires tally { state.old.tally ≡ no_answers }
+    requires controls { state.old.controls ≡ opening_controls }
     requires moment { state.old.moment ≡ 0 }
-    ensures replay { ReplayOf (status_in result) (map journal_of state.new.heap.records) state.new.heap.heard shelf.old
+    ensures replay { ReplayOf closing (status_in result) (map journal_of state.new.heap.records) state.new.heap.heard shelf.old
         shelf.new (S.ended source.new) (S.left source.old) (S.left source.new) (K.held sink.old) (K.held sink.new) }
     ensures status { IfOk result (λ status. (status ≡ 0) ⊎ (status ≡ 3) ⊎ (status ≡ 7)) }
     ensures cause { IfErr result (λ stop. HasStopCause stop (S.faults source.old) (S.faults source.new) (K.faults sink.old) (K.faults sink.new)) }
@@ -213,13 +247,13 @@ fn run_lines<S: Source, K: Sink, H: ExtentHooks>(
         match next_line(alloc, source, sink, shelf, state, &mut pending)? {
             Next::Carried => {}
             Next::Bad(cause) => return refuse_line(alloc, sink, count + 1, cause),
-            Next::Over => return close(alloc, sink, state),
+            Next::Over => return close(alloc, sink, state, closing),
         }
     }
     if has_more(source, sink, &pending)? {
         return refuse_line(alloc, sink, LINES + 1, Cause::LimitLines);
     }
-    close(alloc, sink, state)
+    close(alloc, sink, state, closing)
 }
 
 /// The status of a replay whose lines ended so.
@@ -308,8 +342,9 @@ pub fn replay<S: Source, K: Sink, H: ExtentHooks>(
     source: &mut S,
     sink: &mut K,
     shelf: HookShelf<H>,
+    closing: Closing,
 ) -> Replayed<H>
-    ensures replay { (journals : List Journal) × ReplayOf result.status journals result.heard shelf result.shelf
+    ensures replay { (journals : List Journal) × ReplayOf closing result.status journals result.heard shelf result.shelf
         (S.ended source.new) (S.left source.old) (S.left source.new) (K.held sink.old) (K.held sink.new)
         × HandsOut journals result.journals (DoesNothing result.status result.heard shelf result.shelf
         (S.left source.old) (S.left source.new) (K.held sink.old) (K.held sink.new)) }
@@ -325,6 +360,6 @@ pub fn replay<S: Source, K: Sink, H: ExtentHooks>(
     let Ok(mut state) = State::new(alloc) else {
         return nothing(alloc, shelf);
     };
-    let ended = run_lines(alloc, source, sink, &mut shelf, &mut state);
+    let ended = run_lines(alloc, source, sink, &mut shelf, &mut state, closing);
     leave(sink, shelf, state, ended)
 }

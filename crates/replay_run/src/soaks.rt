@@ -6,11 +6,13 @@ ghost use Rattle.hook_api.specs.declared.kept.Journal.{Journal};
 ghost use Rattle.heap_core.specs.Arenas.{journal_of};
 ghost use Rattle.heap_core.specs.Heaps.{opening_heap};
 ghost use Rattle.report_text.specs.Lines.{calls_line};
+ghost use Rattle.replay_run.specs.declared.replays.Closing.{Closing};
 ghost use Rattle.replay_run.specs.Replays.{DoesNothing, HandsOut};
 ghost use Rattle.replay_run.specs.SoFar.{Here, Halted, Outset, now_of};
 ghost use Rattle.replay_run.specs.Soaks.{IsSoakStatus, SoakOf};
 ghost use Rattle.replay_run.specs.Stops.{HasStopCause, status_in};
 ghost use Rattle.trace_text.specs.declared.lines.Line.{Line};
+ghost use Rattle.replay_run.specs.Controls.{opening_controls};
 ghost use Rattle.replay_run.specs.World.{Nothing, closing, no_answers};
 
 use crate::input::Stop;
@@ -41,13 +43,14 @@ fn carry_lines<H: ExtentHooks>(
     state: &mut State,
 ) -> Result<(), Stop>
     requires heap { state.old.heap ≡ opening_heap }
-    requires verbs { state.old.verbs.items ≡ replicate 32 None }
+    requires calls { state.old.calls.items ≡ replicate 32 None }
     requires names { state.old.names ≡ [] }
     requires tally { state.old.tally ≡ no_answers }
+    requires controls { state.old.controls ≡ opening_controls }
     requires moment { state.old.moment ≡ 0 }
-    ensures through { OnOk result (Here (record { shelf = shelf.old; held = None }) lines Nothing [] (now_of state.new shelf.new None)) }
+    ensures through { OnOk result (Here (record { shelf = shelf.old; held = None; form = Closing.Lines }) lines Nothing [] (now_of state.new shelf.new None)) }
     ensures halted { IfErr result (λ stop. (done : List Line) × (rest : List Line) × (lines ≡ done ++ rest)
-        × Halted (record { shelf = shelf.old; held = None }) done stop (now_of state.new shelf.new None)) }
+        × Halted (record { shelf = shelf.old; held = None; form = Closing.Lines }) done stop (now_of state.new shelf.new None)) }
     ensures cause { IfErr result (λ stop. HasStopCause stop 0 0 0 0) }
 {
     state.heap.stands();
@@ -67,9 +70,10 @@ fn run_soak<K: Sink, H: ExtentHooks>(
     state: &mut State,
 ) -> Result<u8, Stop>
     requires heap { state.old.heap ≡ opening_heap }
-    requires verbs { state.old.verbs.items ≡ replicate 32 None }
+    requires calls { state.old.calls.items ≡ replicate 32 None }
     requires names { state.old.names ≡ [] }
     requires tally { state.old.tally ≡ no_answers }
+    requires controls { state.old.controls ≡ opening_controls }
     requires moment { state.old.moment ≡ 0 }
     ensures soak { SoakOf (status_in result) lines (map journal_of state.new.heap.records) state.new.heap.heard shelf.old shelf.new (K.held sink.old) (K.held sink.new) }
     ensures status { IfOk result (λ status. status ≡ 0) }

@@ -2,14 +2,16 @@
 
 ghost use Rattle.std.specs.Prelude.{◌≡◌, length, None, replicate, IfOk};
 
+use crate::beginnings::{Beginning, ctl_begins, request_begins, request_of, step_of};
+use crate::controls::{Controls, error_answer};
 use crate::names::Names;
-use crate::requests::arena_request;
+use crate::sweeps::{OpenCall, Sweep, advance};
 use crate::tally::Tally;
-use call_plan::{Answered, Request};
+use call_plan::Answered;
 use heap_core::Heap;
 use space_model::CLIENTS;
 use std::alloc::{AllocError as NoMemory, Global};
-use trace_text::{Ptr, Verb};
+use trace_text::Verb;
 
 /// How many bytes a line of a report has room for at first: few have more.
 const LINE_ROOM: usize = 96;
@@ -19,41 +21,45 @@ const LINE_ROOM: usize = 96;
 pub struct State {
     /// The arenas and the clients.
     pub heap: Heap,
-    /// What each client's open call is, by client.
-    pub verbs: Vec<Option<Verb>>,
+    /// Each client's open call, by client.
+    pub calls: Vec<Option<OpenCall>>,
     /// The names that are bound.
     pub names: Names,
     /// How many calls have answered.
     pub tally: Tally,
+    /// What controls read and write beside the heap.
+    pub controls: Controls,
     /// The moment in nanoseconds.
     pub moment: u64,
     /// A buffer for the lines of calls and of their steps, which keeps its room from line to line.
     pub text: Vec<u8>,
-    ghost full: { length verbs.items ≡ 32 },
+    ghost full: { length calls.items ≡ 32 },
 }
 
 impl State {
     ghost use Rattle.std.specs.Prelude.{◌<◌, [], None, Some, replicate, slice_set, IfOk, IfSome, OnOk};
     ghost use Rattle.call_plan.specs.Laws.{IsInRange};
-    ghost use Rattle.heap_core.specs.Arenas.{record_at};
     ghost use Rattle.trace_text.specs.Grammar.{IsVerbWithinLimits};
-    ghost use Rattle.replay_run.specs.Names.{address_at};
     ghost use Rattle.heap_core.specs.Heaps.{opening_heap};
-    ghost use Rattle.replay_run.specs.World.{arena_with, names_closed, no_answers, region_request, request_of, take_in, tally_closed, target_of, verb_at, verbs_closed};
+    ghost use Rattle.replay_run.specs.Beginnings.{IsBeginning, beginning_of, controls_of};
+    ghost use Rattle.replay_run.specs.Controls.{opening_controls};
+    ghost use Rattle.replay_run.specs.World.{calls_closed, calls_swept, names_closed, no_answers, tally_closed, verb_at};
 
     /// The opening state of a replay.
     pub fn new(alloc: Global) -> Result<State, NoMemory>
         ensures heap { IfOk result (λ state. state.heap ≡ opening_heap) }
-        ensures verbs { IfOk result (λ state. state.verbs.items ≡ replicate 32 None) }
+        ensures calls { IfOk result (λ state. state.calls.items ≡ replicate 32 None) }
         ensures names { IfOk result (λ state. state.names ≡ []) }
         ensures tally { IfOk result (λ state. state.tally ≡ no_answers) }
+        ensures controls { IfOk result (λ state. state.controls ≡ opening_controls) }
         ensures moment { IfOk result (λ state. state.moment ≡ 0) }
     {
         Ok(State {
             heap: Heap::new(alloc)?,
-            verbs: no_verbs(alloc)?,
+            calls: no_calls(alloc)?,
             names: Names::new(alloc),
             tally: Tally::new(),
+            controls: Controls::new(),
             moment: 0,
             text: Vec::with_capacity(alloc, LINE_ROOM)?,
         })
@@ -68,70 +74,54 @@ impl State {
     }
 
     /// Keeps what a client's call is, which is open from now on.
-    pub fn open(&mut self, client: u32, verb: Verb)
+    pub fn open(&mut self, client: u32, verb: Verb, sweep: Option<Sweep>)
         requires { client < 32 }
         ensures heap { self.new.heap ≡ self.old.heap }
-        ensures verbs { self.new.verbs.items ≡ slice_set self.old.verbs.items client (Some verb) }
+        ensures calls { self.new.calls.items ≡ slice_set self.old.calls.items client (Some (record { verb = verb; sweep = sweep })) }
+        ensures names { self.new.names ≡ self.old.names }
+        ensures tally { self.new.tally ≡ self.old.tally }
+        ensures controls { self.new.controls ≡ self.old.controls }
+        ensures moment { self.new.moment ≡ self.old.moment }
+    {
+        self.calls[client as usize] = Some(OpenCall { verb, sweep });
+    }
+
+    /// What a call of a line comes to where it begins. What it sets of the controls is set by that.
+    pub fn begin(&mut self, alloc: Global, client: u32, verb: &Verb) -> Result<Beginning, NoMemory>
+        requires client { client < 32 }
+        requires limits { IsVerbWithinLimits verb.now }
+        ensures begins { IfOk result (λ begins. begins ≡ beginning_of self.old.heap self.old.names self.old.controls self.old.moment client verb.now) }
+        ensures range { IfOk result IsBeginning }
+        ensures controls { OnOk result (self.new.controls ≡ controls_of self.old.heap.records self.old.controls self.old.moment verb.now) }
+        ensures heap { self.new.heap ≡ self.old.heap }
+        ensures calls { self.new.calls.items ≡ self.old.calls.items }
         ensures names { self.new.names ≡ self.old.names }
         ensures tally { self.new.tally ≡ self.old.tally }
         ensures moment { self.new.moment ≡ self.old.moment }
     {
-        self.verbs[client as usize] = Some(verb);
-    }
-
-    /// What a call of a line asks for; nothing, where it takes a region at an address at which no arena has an extent, and where
-    /// it is one of `ctl`, which isn't carried out.
-    pub fn request_of(&self, verb: &Verb) -> Option<Request>
-        requires { IsVerbWithinLimits verb.now }
-        ensures request { result ≡ request_of self.now.heap.records self.now.names self.now.moment verb.now }
-        ensures range { IfSome result IsInRange }
-    {
-        match arena_request(verb, self.moment) {
-            Some(request) => Some(request),
-            None => self.region_request(verb),
+        let times = self.controls.times(self.moment);
+        match step_of(verb, times) {
+            None => Ok(request_begins(request_of(&self.heap, &self.names, times, verb))),
+            Some(Err(error)) => Ok(Beginning::Tells(error_answer(error))),
+            Some(Ok(step)) => {
+                let begins = ctl_begins(alloc, &self.heap, &self.controls, client, step)?;
+                self.controls.set(&self.heap, step);
+                Ok(begins)
+            }
         }
     }
 
-    /// What a call asks for that is about regions, if it is one.
-    fn region_request(&self, verb: &Verb) -> Option<Request>
-        ensures request { result ≡ region_request self.now.heap.records self.now.names verb.now }
-        ensures range { IfSome result IsInRange }
+    /// The next request of a client's open call isn't left any more.
+    pub fn advance(&mut self, client: u32)
+        requires { client < 32 }
+        ensures calls { self.new.calls.items ≡ calls_swept self.old.calls.items client }
+        ensures heap { self.new.heap ≡ self.old.heap }
+        ensures names { self.new.names ≡ self.old.names }
+        ensures tally { self.new.tally ≡ self.old.tally }
+        ensures controls { self.new.controls ≡ self.old.controls }
+        ensures moment { self.new.moment ≡ self.old.moment }
     {
-        match verb {
-            Verb::Malloc { size, .. } => Some(Request::Malloc { size: *size }),
-            Verb::Memalign { align, size, .. } => Some(Request::Memalign {
-                align: *align,
-                size: *size,
-            }),
-            Verb::Free(target) => Some(Request::Free {
-                addr: self.names.address_at(target),
-            }),
-            Verb::Publish(target) => Some(Request::Publish {
-                addr: self.names.address_at(target),
-            }),
-            Verb::Take(target) => self.take_of(target),
-            _ => None,
-        }
-    }
-
-    /// A take of the region that a pointer stands for, where an arena has an extent there.
-    fn take_of(&self, target: &Ptr) -> Option<Request>
-        ensures request { result ≡ take_in (address_at self.now.names target.now) (arena_with self.now.heap.records (address_at self.now.names target.now)) }
-        ensures range { IfSome result IsInRange }
-    {
-        let addr = self.names.address_at(target);
-        let arena = self.heap.arena_of(addr)?;
-        Some(Request::Take { addr, arena })
-    }
-
-    /// The address that a call which asks for nothing looked for.
-    pub fn target_of(&self, verb: &Verb) -> u64
-        ensures { result ≡ target_of self.now.names verb.now }
-    {
-        match verb {
-            Verb::Take(target) => self.names.address_at(target),
-            _ => 0,
-        }
+        advance(&mut self.calls[client as usize]);
     }
 
     /// Where a client's open call has its answer, it is open no more, the answer is counted, and its name is bound, unless memory
@@ -140,28 +130,29 @@ impl State {
         requires { client < 32 }
         ensures heap { self.new.heap ≡ self.old.heap }
         ensures moment { self.new.moment ≡ self.old.moment }
-        ensures verbs { OnOk result (self.new.verbs.items ≡ verbs_closed self.old.verbs.items client answer.now) }
-        ensures names { OnOk result (self.new.names ≡ names_closed self.old.names (verb_at self.old.verbs.items client) answer.now) }
+        ensures calls { OnOk result (self.new.calls.items ≡ calls_closed self.old.calls.items client answer.now) }
+        ensures names { OnOk result (self.new.names ≡ names_closed self.old.names (verb_at self.old.calls.items client) answer.now) }
         ensures tally { self.new.tally ≡ tally_closed self.old.tally answer.now }
+        ensures controls { self.new.controls ≡ self.old.controls }
     {
         let Some(answer) = answer else {
             return Ok(());
         };
         self.tally.count(answer);
-        match self.verbs[client as usize].take() {
-            Some(verb) => self.names.bind_answer(verb, *answer),
+        match self.calls[client as usize].take() {
+            Some(call) => self.names.bind_answer(call.verb, *answer),
             None => Ok(()),
         }
     }
 }
 
 /// No client has an open call.
-fn no_verbs(alloc: Global) -> Result<Vec<Option<Verb>>, NoMemory>
-    ensures { IfOk result (λ verbs. verbs.items ≡ replicate 32 None) }
+fn no_calls(alloc: Global) -> Result<Vec<Option<OpenCall>>, NoMemory>
+    ensures { IfOk result (λ calls. calls.items ≡ replicate 32 None) }
 {
-    let mut verbs = Vec::new(alloc);
+    let mut calls = Vec::new(alloc);
     for _client in 0..CLIENTS {
-        verbs.push(None)?;
+        calls.push(None)?;
     }
-    Ok(verbs)
+    Ok(calls)
 }

@@ -13,7 +13,7 @@ use Rattle.call_plan.specs.declared.needs.Answered.TheVariants.{Ok, Refused, Bad
 use Rattle.call_plan.specs.declared.needs.Given.{Given}
 use Rattle.call_plan.specs.declared.needs.Given.TheVariants.{Region, Done, Arena, Limits}
 use Rattle.report_text.specs.declared.heads.Head.{Head}
-use Rattle.report_text.specs.declared.heads.Head.TheVariants.{Take}
+use Rattle.report_text.specs.declared.heads.Head.TheVariants.{Take, Ctl, CtlDone}
 use Rattle.report_text.specs.Places.{address_text, page_text, span_text}
 
 -- the kind of an ask
@@ -66,9 +66,16 @@ answer_text NoMemory = codes "no memory"
 answer_text ArenasFull = codes "arenas full"
 answer_text Automatic = codes "automatic arena"
 
--- the answer of the call of this head: a take says nothing of its region
+-- the answer of a call of a control: so is told what it gives, and another answer stands behind `EFAULT`
+abbrev pub ctl_ended : (Given → List ℕ) → Answered → List ℕ
+ctl_ended told (Ok given) = told given
+ctl_ended told answered = codes "EFAULT " ++ answer_text answered
+
+-- the answer of the call of this head: a take says nothing of its region, nor does a control of which `ok` alone is told
 abbrev pub ended_text : Head → Answered → List ℕ
 ended_text Take (Ok (Region addr class)) = codes "ok"
+ended_text (Ctl name) answered = ctl_ended given_text answered
+ended_text (CtlDone name) answered = ctl_ended (λ given. codes "ok") answered
 ended_text head answered = answer_text answered
 
 -- the answer of a hook: of a range that was placed, where it begins

@@ -1,7 +1,7 @@
 -- The texts of what makes a line of the input bad.
 use Rattle.std.specs.Prelude.{ℕ, List, codes}
 use Rattle.report_text.specs.declared.causes.Cause.{Cause}
-use Rattle.report_text.specs.declared.causes.Cause.TheVariants.{LimitLines, LimitBytes, Cut, Bytes, Words, Number, LimitThreads, Range, Clock, Phase, Unbuilt}
+use Rattle.report_text.specs.declared.causes.Cause.TheVariants.{LimitLines, LimitBytes, Cut, Bytes, Words, Number, LimitThreads, Range, Clock, Phase}
 
 -- what makes a line bad
 abbrev pub cause_text : Cause → List ℕ
@@ -15,4 +15,3 @@ cause_text LimitThreads = codes "limit threads"
 cause_text Range = codes "range"
 cause_text Clock = codes "clock"
 cause_text Phase = codes "phase"
-cause_text Unbuilt = codes "unbuilt"

@@ -1,7 +1,7 @@
 -- The heads of calls: which call a line is about.
 use Rattle.std.specs.Prelude.{ℕ, List, [], ◌++◌, codes}
 use Rattle.report_text.specs.declared.heads.Head.{Head}
-use Rattle.report_text.specs.declared.heads.Head.TheVariants.{Malloc, Memalign, Free, Publish, Take, Purge, Decay, Dirty, Muzzy, Reset, Destroy, Create, Arena, Cache, Flush}
+use Rattle.report_text.specs.declared.heads.Head.TheVariants.{Malloc, Memalign, Free, Publish, Take, Purge, Decay, Dirty, Muzzy, Reset, Destroy, Create, Arena, Cache, Flush, Ctl, CtlDone}
 
 -- the first word of a call
 abbrev pub head_word : Head → List ℕ
@@ -20,9 +20,13 @@ head_word Create = codes "create"
 head_word Arena = codes "arena"
 head_word Cache = codes "cache"
 head_word Flush = codes "flush"
+head_word (Ctl name) = codes "ctl"
+head_word (CtlDone name) = codes "ctl"
 
--- the name that a malloc or a memalign binds, behind a space
+-- the name that a malloc or a memalign binds, or that of a control, behind a space
 abbrev pub head_name : Head → List ℕ
 head_name (Malloc name) = codes " " ++ name.now
 head_name (Memalign name) = codes " " ++ name.now
+head_name (Ctl name) = codes " " ++ name.now
+head_name (CtlDone name) = codes " " ++ name.now
 head_name head = []

@@ -10,6 +10,8 @@ use Rattle.report_text.specs.declared.causes.Cause.{Cause}
 use Rattle.report_text.specs.Heads.{head_word, head_name}
 use Rattle.report_text.specs.Answers.{kind_text, ended_text, said_text}
 use Rattle.report_text.specs.Causes.{cause_text}
+use Rattle.report_text.specs.Controls.{ctl_text}
+use Rattle.report_text.specs.declared.controls.CtlAnswer.{CtlAnswer}
 
 -- the end of a line
 abbrev pub newline : List ℕ
@@ -20,6 +22,11 @@ unfoldable pub call_line : ℕ → Head → Answered → List ℕ
 call_line client head answered =
     codes "t" ++ decimal client ++ codes " " ++ head_word head ++ head_name head ++
     codes " " ++ ended_text head answered ++ newline
+
+-- a line of a control that is answered where it begins: its client, the name, and the answer
+unfoldable pub ctl_line : ℕ → List ℕ → CtlAnswer → List ℕ
+ctl_line client name answer =
+    codes "t" ++ decimal client ++ codes " ctl " ++ name ++ codes " " ++ ctl_text answer ++ newline
 
 -- a turn that a client's step took
 unfoldable pub turn_line : ℕ → List ℕ

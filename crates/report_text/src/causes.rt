@@ -28,8 +28,6 @@ pub enum Cause {
     Clock,
     /// It can't stand in this phase.
     Phase,
-    /// It can't be carried out yet.
-    Unbuilt,
 }
 
 impl fmt::Display for Cause {
@@ -47,7 +45,6 @@ impl fmt::Display for Cause {
             Cause::Range => f.write_str("range"),
             Cause::Clock => f.write_str("clock"),
             Cause::Phase => f.write_str("phase"),
-            Cause::Unbuilt => f.write_str("unbuilt"),
         }
     }
 }

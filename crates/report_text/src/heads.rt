@@ -8,7 +8,8 @@ use crate::rows::Row;
 /// How many bytes a name has at most that is laid in a row.
 const SHORT_NAME: usize = 32;
 
-/// What names a call in its line: its first word, and behind it the name that a malloc or a memalign binds.
+/// What names a call in its line: its first word, and behind it the name that a malloc or a memalign binds, or that of a
+/// control. It also says how the answer is told.
 #[derive(Clone, Copy)]
 pub enum Head<'a> {
     /// `malloc NAME`.
@@ -41,6 +42,10 @@ pub enum Head<'a> {
     Cache,
     /// `flush`.
     Flush,
+    /// `ctl NAME`, of a call that tells what it gives.
+    Ctl(&'a [u8]),
+    /// `ctl NAME`, of a call that tells `ok` in place of what it gives, as one for all arenas at once.
+    CtlDone(&'a [u8]),
 }
 
 /// The first word of a call.
@@ -63,21 +68,24 @@ pub(crate) fn word(head: Head<'_>) -> &'static str
         Head::Arena => "arena",
         Head::Cache => "cache",
         Head::Flush => "flush",
+        Head::Ctl(_) | Head::CtlDone(_) => "ctl",
     }
 }
 
-/// Whether a call binds no name, or one that is short enough for a row.
+/// Whether a call has no name in its line, or one that is short enough for a row.
 #[inline(always)]
 pub(crate) fn has_short_name(head: Head<'_>) -> bool
     ensures { result ≡ true → length (head_name head.entry) ≤ 33 }
 {
     match head {
-        Head::Malloc(name) | Head::Memalign(name) => name.len() <= SHORT_NAME,
+        Head::Malloc(name) | Head::Memalign(name) | Head::Ctl(name) | Head::CtlDone(name) => {
+            name.len() <= SHORT_NAME
+        }
         _ => true,
     }
 }
 
-/// Lays the first word of a call, and the name that it binds.
+/// Lays the first word of a call, and its name, if it has one.
 #[inline(always)]
 pub(crate) fn lay_head(row: &mut Row, head: Head<'_>)
     requires name { length (head_name head) ≤ 33 }
@@ -93,6 +101,10 @@ pub(crate) fn lay_head(row: &mut Row, head: Head<'_>)
         Head::Memalign(name) => {
             row.lay_text(name);
             row.lay_text(b"memalign ");
+        }
+        Head::Ctl(name) | Head::CtlDone(name) => {
+            row.lay_text(name);
+            row.lay_text(b"ctl ");
         }
         Head::Free => row.lay_text(b"free"),
         _ => row.lay_text(word(head).as_bytes()),

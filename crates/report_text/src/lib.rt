@@ -6,6 +6,7 @@
 
 mod answers;
 mod causes;
+mod controls;
 mod counts;
 mod heads;
 mod lines;
@@ -13,8 +14,9 @@ mod places;
 mod rows;
 
 pub use causes::Cause;
+pub use controls::CtlAnswer;
 pub use heads::Head;
 pub use lines::{
-    accepted_line, ask_line, bad_line, call_line, calls_line, counts_line, entries_line, idle_line,
-    met_line, no_arena_line, no_entry_line, no_step_line, turn_line, usage_line,
+    accepted_line, ask_line, bad_line, call_line, calls_line, counts_line, ctl_line, entries_line,
+    idle_line, met_line, no_arena_line, no_entry_line, no_step_line, turn_line, usage_line,
 };

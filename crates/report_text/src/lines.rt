@@ -3,23 +3,24 @@
 ghost use Rattle.std.specs.Prelude.{◌≡◌, ◌≤◌, ◌++◌, [], codes, length, OnOk};
 ghost use Rattle.call_plan.specs.declared.needs.Given.{Given};
 ghost use Rattle.report_text.specs.Heads.{head_name};
-ghost use Rattle.report_text.specs.Answers.{ended_text, given_text};
-ghost use Rattle.report_text.specs.Lines.{newline, call_line, turn_line, ask_line, idle_line, counts_line, no_arena_line, bad_line, calls_line, entries_line, accepted_line, no_entry_line, no_step_line, met_line, usage_line};
+ghost use Rattle.report_text.specs.Answers.{ctl_ended, ended_text, given_text};
+ghost use Rattle.report_text.specs.Lines.{newline, call_line, ctl_line, turn_line, ask_line, idle_line, counts_line, no_arena_line, bad_line, calls_line, entries_line, accepted_line, no_entry_line, no_step_line, met_line, usage_line};
 
 use crate::answers::{AnswerText, SaidText, kind, size};
 use crate::counts::{CountsText, MappedText, UnusedText, UsedText};
 use crate::heads::{has_short_name, lay_head, word};
 use crate::rows::Row;
-use crate::{Cause, Head};
+use crate::{Cause, CtlAnswer, Head};
 use call_plan::{Answered, Given};
 use space_model::{Answer, Ask, Counts};
 use std::alloc::AllocError as NoMemory;
 use std::io::{Error, Write};
 
-/// The line of a call that has ended: `tC`, its first word, the name that it binds, if it does, and its answer.
+/// The line of a call that has ended: `tC`, its first word, the name that it binds or that of its control, if it has one, and
+/// its answer.
 ///
 /// A region is `@ADDR SIZE`, with the size of its class in bytes, which is 0 of a class that isn't in the table; for
-/// `take` it is `ok`.
+/// `take` it is `ok`. For a control each answer but `Ok` stands behind `EFAULT`.
 #[tactic(auto, unfolding(crate::specs::Lines::call_line))]
 pub fn call_line(
     out: &mut Vec<u8>,
@@ -37,7 +38,9 @@ pub fn call_line(
     match (head, answered) {
         (Head::Take, Answered::Ok(Given::Region { .. })) => row.lay_text(b" ok\n"),
         (_, Answered::Ok(Given::Done)) => row.lay_text(b" ok\n"),
-        (_, Answered::Ok(Given::Region { addr, class })) => lay_region(&mut row, *addr, *class),
+        (Head::Malloc(_) | Head::Memalign(_), Answered::Ok(Given::Region { addr, class })) => {
+            lay_region(&mut row, *addr, *class);
+        }
         _ => return rare_line(out, client, head, answered),
     }
     lay_head(&mut row, head);
@@ -69,11 +72,13 @@ fn rare_line(
 fn write_name(out: &mut Vec<u8>, head: Head<'_>) -> Result<(), NoMemory>
     ensures { OnOk result (out.new.items ≡ out.old.items ++ head_name head.entry) }
 {
-    if let Head::Malloc(name) | Head::Memalign(name) = head {
-        out.push(b' ')?;
-        out.extend_from_slice(name)?;
+    match head {
+        Head::Malloc(name) | Head::Memalign(name) | Head::Ctl(name) | Head::CtlDone(name) => {
+            out.push(b' ')?;
+            out.extend_from_slice(name)
+        }
+        _ => Ok(()),
     }
-    Ok(())
 }
 
 fn write_ended(out: &mut Vec<u8>, head: Head<'_>, answered: &Answered) -> Result<(), NoMemory>
@@ -81,8 +86,36 @@ fn write_ended(out: &mut Vec<u8>, head: Head<'_>, answered: &Answered) -> Result
 {
     match (head, answered) {
         (Head::Take, Answered::Ok(Given::Region { .. })) => out.extend_from_slice(b"ok"),
+        (Head::CtlDone(_), Answered::Ok(_)) => out.extend_from_slice(b"ok"),
+        (Head::Ctl(_) | Head::CtlDone(_), answered) => write_ctl_ended(out, answered),
         (_, answered) => write!(out, "{}", AnswerText(*answered)).map_err(no_memory),
     }
+}
+
+/// Writes the answer of a call of a control that tells what it gives.
+fn write_ctl_ended(out: &mut Vec<u8>, answered: &Answered) -> Result<(), NoMemory>
+    ensures { OnOk result (out.new.items ≡ out.old.items ++ ctl_ended given_text answered.now) }
+{
+    let text = AnswerText(*answered);
+    match answered {
+        Answered::Ok(_) => write!(out, "{text}").map_err(no_memory),
+        _ => write!(out, "EFAULT {text}").map_err(no_memory),
+    }
+}
+
+/// The line of a control that is answered where it begins, by its name: `tC ctl NAME`, and `ok`, the value or the error.
+#[tactic(auto, unfolding(crate::specs::Lines::ctl_line))]
+pub fn ctl_line(
+    out: &mut Vec<u8>,
+    client: u32,
+    name: &[u8],
+    answer: &CtlAnswer,
+) -> Result<(), NoMemory>
+    ensures { OnOk result (out.new.items ≡ out.old.items ++ ctl_line client name.now answer.now) }
+{
+    write!(out, "t{client} ctl ").map_err(no_memory)?;
+    out.extend_from_slice(name)?;
+    writeln!(out, " {answer}").map_err(no_memory)
 }
 
 /// Lays the answer of a region, with the space before it and the newline behind it.

@@ -2,8 +2,8 @@
 
 use call_plan::{Answered, Given};
 use report_text::{
-    Cause, Head, ask_line, bad_line, call_line, counts_line, idle_line, no_arena_line, turn_line,
-    usage_line,
+    Cause, CtlAnswer, Head, ask_line, bad_line, call_line, counts_line, ctl_line, idle_line,
+    no_arena_line, turn_line, usage_line,
 };
 use space_model::{Answer, Ask, Counts, Span, Why};
 use std::alloc::Global;
@@ -151,6 +151,74 @@ fn prints_why_nothing_was_done(rt: HostRuntime) -> Result<(), Fail> {
 }
 
 #[test]
+fn prints_calls_of_controls(rt: HostRuntime) -> Result<(), Fail> {
+    let limits = Answered::Ok(Given::Limits {
+        dirty: Some(2),
+        muzzy: None,
+    });
+    let decay = Head::Ctl(b"arena.0.decay");
+    let decayed = "t7 ctl arena.0.decay dirty 2 muzzy -\n";
+    prints(&rt, rt.alloc(), decay, limits, decayed)
+}
+
+#[test]
+fn prints_no_limits_of_all_arenas(rt: HostRuntime) -> Result<(), Fail> {
+    let limits = Answered::Ok(Given::Limits {
+        dirty: Some(2),
+        muzzy: None,
+    });
+    let all = Head::CtlDone(b"arena.4096.decay");
+    prints(&rt, rt.alloc(), all, limits, "t7 ctl arena.4096.decay ok\n")
+}
+
+#[test]
+fn prints_writes_of_controls(rt: HostRuntime) -> Result<(), Fail> {
+    let alloc = rt.alloc();
+    let create = Head::Ctl(b"arenas.create");
+    let made = Answered::Ok(Given::Arena(2));
+    prints(&rt, alloc, create, made, "t7 ctl arenas.create 2\n")?;
+    let bind = Head::CtlDone(b"thread.arena");
+    let bound = Answered::Ok(Given::Done);
+    prints(&rt, alloc, bind, bound, "t7 ctl thread.arena ok\n")?;
+    let limit = Head::CtlDone(b"arena.31.retain_grow_limit.and.more");
+    let long = "t7 ctl arena.31.retain_grow_limit.and.more ok\n";
+    prints(&rt, alloc, limit, Answered::Ok(Given::Done), long)
+}
+
+#[test]
+fn prints_refused_calls_of_controls(rt: HostRuntime) -> Result<(), Fail> {
+    let alloc = rt.alloc();
+    let bind = Head::CtlDone(b"thread.arena");
+    let unbound = "t7 ctl thread.arena EFAULT no arena 40\n";
+    prints(&rt, alloc, bind, Answered::NoArena(40), unbound)?;
+    let reset = Head::Ctl(b"arena.0.reset");
+    let automatic = "t7 ctl arena.0.reset EFAULT automatic arena\n";
+    prints(&rt, alloc, reset, Answered::Automatic, automatic)
+}
+
+#[test]
+fn prints_answers_of_controls(rt: HostRuntime) -> Result<(), Fail> {
+    let answers = [
+        (CtlAnswer::Done, "t3 ctl epoch ok\n"),
+        (CtlAnswer::Number(4096), "t3 ctl epoch 4096\n"),
+        (CtlAnswer::Truth(true), "t3 ctl epoch true\n"),
+        (CtlAnswer::Truth(false), "t3 ctl epoch false\n"),
+        (CtlAnswer::Time(10000), "t3 ctl epoch 10000\n"),
+        (CtlAnswer::Time(-1), "t3 ctl epoch -1\n"),
+        (CtlAnswer::Enoent, "t3 ctl epoch ENOENT\n"),
+        (CtlAnswer::Eperm, "t3 ctl epoch EPERM\n"),
+        (CtlAnswer::Einval, "t3 ctl epoch EINVAL\n"),
+        (CtlAnswer::Gone(40), "t3 ctl epoch EFAULT no arena 40\n"),
+    ];
+    for (answer, want) in answers {
+        let mut line = Vec::new(rt.alloc());
+        ctl_line(&mut line, 3, b"epoch", &answer)?;
+        assert_eq!(rt; line.as_slice(), want.as_bytes());
+    }
+    Ok(())
+}
+
+#[test]
 fn prints_steps(rt: HostRuntime) -> Result<(), Fail> {
     let mut lines = Vec::new(rt.alloc());
     let placed = Answer::Placed {
@@ -211,7 +279,6 @@ fn prints_causes(rt: HostRuntime) -> Result<(), Fail> {
         (Cause::Range, "line 2: range\n"),
         (Cause::Clock, "line 2: clock\n"),
         (Cause::Phase, "line 2: phase\n"),
-        (Cause::Unbuilt, "line 2: unbuilt\n"),
     ];
     for (cause, want) in causes {
         prints_cause(&rt, rt.alloc(), cause, want)?;

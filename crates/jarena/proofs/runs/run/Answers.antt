@@ -1,22 +1,22 @@
 use Rattle.std.proofs.Common.{inl, inr, refl, sym, ◌∙◌, arith}
 use Rattle.jarena.proofs.Completing.{replay_completes, soak_completes}
-use Rattle.jarena.proofs.Lists.{check_in_list, check_no_replay, check_no_soak, replay_in_list, replay_no_soak, soak_calls, soak_in_list, soak_start}
+use Rattle.jarena.proofs.Lists.{check_in_list, check_no_replay, check_no_soak, replay_form, replay_in_list, replay_no_soak, soak_calls, soak_in_list, soak_start}
 use Rattle.jarena.proofs.runs.run.Goals as goal
 
 -- ---- a replay
 
 pub returns-in-Replay-clause-usage : goal.returns-in-Replay-clause-usage
-returns-in-Replay-clause-usage g c = λ none. absurd (replay_in_list _ c.in-Replay.ensures none)
+returns-in-Replay-clause-usage g c = λ none. absurd (replay_in_list _ c.in-Replay.closing c.in-Replay.ensures none)
 
 pub returns-in-Replay-clause-status_2 : goal.returns-in-Replay-clause-status_2
 returns-in-Replay-clause-status_2 g c = λ two. absurd (omega (arith, two, c.outcome_of.ensures.status, c.replay.ensures.known))
 
 pub returns-in-Replay-clause-unread : goal.returns-in-Replay-clause-unread
-returns-in-Replay-clause-unread g c = inl c.in-Replay.ensures
+returns-in-Replay-clause-unread g c = inl (c.in-Replay.closing, c.in-Replay.ensures)
 
 pub returns-in-Replay-clause-replay : goal.returns-in-Replay-clause-replay
-returns-in-Replay-clause-replay g c = λ is.
-    let told = c.replay.ensures in
+returns-in-Replay-clause-replay g c = λ form is.
+    let told = rw (replay_form _ c.in-Replay.closing form c.in-Replay.ensures is) at c.replay.ensures in
     let out = c.outcome_of.ensures in
     rw (out.status, out.shelf, out.journals, out.heard) (record {
       journals = told.replay.0;
@@ -32,10 +32,10 @@ returns-in-Replay-clause-replay g c = λ is.
     })
 
 pub returns-in-Replay-clause-soak : goal.returns-in-Replay-clause-soak
-returns-in-Replay-clause-soak g c = λ start calls is. absurd (replay_no_soak _ start calls c.in-Replay.ensures is)
+returns-in-Replay-clause-soak g c = λ start calls is. absurd (replay_no_soak _ c.in-Replay.closing start calls c.in-Replay.ensures is)
 
 pub returns-in-Replay-clause-check : goal.returns-in-Replay-clause-check
-returns-in-Replay-clause-check g c = λ is. absurd (check_no_replay _ is c.in-Replay.ensures)
+returns-in-Replay-clause-check g c = λ is. absurd (check_no_replay _ c.in-Replay.closing is c.in-Replay.ensures)
 
 -- ---- a soak
 
@@ -49,7 +49,7 @@ pub returns-in-Soak-clause-unread : goal.returns-in-Soak-clause-unread
 returns-in-Soak-clause-unread g c = inr (inr refl)
 
 pub returns-in-Soak-clause-replay : goal.returns-in-Soak-clause-replay
-returns-in-Soak-clause-replay g c = λ is. absurd (replay_no_soak _ _ _ is c.in-Soak.ensures)
+returns-in-Soak-clause-replay g c = λ form is. absurd (replay_no_soak _ form _ _ is c.in-Soak.ensures)
 
 pub returns-in-Soak-clause-soak : goal.returns-in-Soak-clause-soak
 returns-in-Soak-clause-soak g c = λ start calls is.
@@ -82,7 +82,7 @@ pub returns-in-Check-clause-unread : goal.returns-in-Check-clause-unread
 returns-in-Check-clause-unread g c = inr (inl c.in-Check.ensures)
 
 pub returns-in-Check-clause-replay : goal.returns-in-Check-clause-replay
-returns-in-Check-clause-replay g c = λ is. absurd (check_no_replay _ c.in-Check.ensures is)
+returns-in-Check-clause-replay g c = λ form is. absurd (check_no_replay _ form c.in-Check.ensures is)
 
 pub returns-in-Check-clause-soak : goal.returns-in-Check-clause-soak
 returns-in-Check-clause-soak g c = λ start calls is. absurd (check_no_soak _ start calls c.in-Check.ensures is)
@@ -105,7 +105,7 @@ pub returns-in-Nothing-clause-unread : goal.returns-in-Nothing-clause-unread
 returns-in-Nothing-clause-unread g c = inr (inr refl)
 
 pub returns-in-Nothing-clause-replay : goal.returns-in-Nothing-clause-replay
-returns-in-Nothing-clause-replay g c = λ is. absurd (replay_in_list _ is c.in-Nothing.ensures)
+returns-in-Nothing-clause-replay g c = λ form is. absurd (replay_in_list _ form is c.in-Nothing.ensures)
 
 pub returns-in-Nothing-clause-soak : goal.returns-in-Nothing-clause-soak
 returns-in-Nothing-clause-soak g c = λ start calls is. absurd (soak_in_list _ start calls is c.in-Nothing.ensures)

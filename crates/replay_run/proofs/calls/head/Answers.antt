@@ -8,3 +8,10 @@ returns-in-Malloc c = λ client answer. rw (c.in-Malloc.is, c.as_bytes.ensures.b
 pub returns-in-Memalign : goal.returns-in-Memalign
 unfolding call_line
 returns-in-Memalign c = λ client answer. rw (c.in-Memalign.is, c.as_bytes-in-Memalign.ensures.bytes) refl
+
+pub returns-in-CtlPlain : goal.returns-in-CtlPlain
+returns-in-CtlPlain c = λ client answer. rw c.in-CtlPlain.is (c.ctl_head.ensures client answer)
+
+pub returns-in-CtlWrite : goal.returns-in-CtlWrite
+unfolding call_line
+returns-in-CtlWrite c = λ client answer. rw (c.in-CtlWrite.is, c.as_bytes-in-CtlWrite.ensures.bytes) refl

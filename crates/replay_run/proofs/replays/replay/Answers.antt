@@ -13,7 +13,7 @@ returns-clause-replay g c = (
 pub returns-in_default-clause-replay : goal.returns-in_default-clause-replay
 returns-in_default-clause-replay g c = (
   map journal_of opening_heap.records,
-  rw (c.nothing.ensures.status, c.nothing.ensures.heard, c.nothing.ensures.shelf) (replay_none _ _ _ _ opening_sound),
+  rw (c.nothing.ensures.status, c.nothing.ensures.heard, c.nothing.ensures.shelf) (replay_none _ _ _ _ _ opening_sound),
   inr (c.nothing.ensures.journals, record { memory = c.nothing.ensures.status; unheard = c.nothing.ensures.heard; unasked = c.nothing.ensures.shelf; untaken = refl; unprinted = refl }),
 )
 

@@ -10,7 +10,7 @@ loop-count-init g c = record {
   here = record {
     lines = [];
     read = read_none _ _ c.new-pending.ensures refl;
-    here = here_none _ _ c.requires.heap c.requires.verbs c.requires.names c.requires.tally c.requires.moment refl refl (record { arenas = c.stands.ensures.arenas; seats = c.stands.ensures.seats });
+    here = here_none _ _ c.requires.heap c.requires.calls c.requires.names c.requires.tally c.requires.controls c.requires.moment refl refl (record { arenas = c.stands.ensures.arenas; seats = c.stands.ensures.seats });
   };
   source_faults = omega (arith);
   sink_faults = omega (arith);

@@ -4,7 +4,7 @@ use Rattle.replay_run.proofs.replays.run_lines.Given as goal
 -- as many lines as turns were carried out so far, and nothing failed
 abbrev pub invariant-loop-count : goal.invariant-loop-count
 invariant-loop-count g l = record {
-  here : Between (record { shelf = l.initial.shelf; held = g.K.Sink.held l.initial.sink }) (g.S.Source.left l.initial.source) l.count
+  here : Between (record { shelf = l.initial.shelf; held = g.K.Sink.held l.initial.sink; form = l.closing }) (g.S.Source.left l.initial.source) l.count
       (reading l.pending (g.S.Source.left l.source) (g.S.Source.ended l.source)) (now_of l.state l.shelf (g.K.Sink.held l.sink));
   source_faults : g.S.Source.faults l.source ≡ g.S.Source.faults l.initial.source;
   sink_faults : g.K.Sink.faults l.sink ≡ g.K.Sink.faults l.initial.sink;

@@ -9,7 +9,7 @@ pub draws-init : goal.draws-init
 draws-init g c = record {
   done = [];
   are = refl;
-  here = here_none _ _ c.requires.heap c.requires.verbs c.requires.names c.requires.tally c.requires.moment refl refl (record { arenas = c.stands.ensures.arenas; seats = c.stands.ensures.seats });
+  here = here_none _ _ c.requires.heap c.requires.calls c.requires.names c.requires.tally c.requires.controls c.requires.moment refl refl (record { arenas = c.stands.ensures.arenas; seats = c.stands.ensures.seats });
 }
 
 pub returns-in_err-line-clause-halted : goal.returns-in_err-line-clause-halted
