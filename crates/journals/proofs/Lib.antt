@@ -1,1 +1,4 @@
 mod Nothing
+mod Printed
+mod Arenas
+mod Accepted

@@ -1,21 +1,61 @@
--- What a run does that prints journals.
-use Rattle.std.specs.Prelude.{◌≡◌, ◌⊎◌, ℕ, Bool, List, Option, None}
+-- What a run does that prints journals or asks, and what is so of the text.
+use Rattle.std.specs.Prelude.{◌≡◌, ◌≢◌, ◌⊎◌, ℕ, Bool, List, Option, None}
 use Rattle.edge_io.specs.Bytes.{Appends, AppendsPrefix}
 use Rattle.hook_api.specs.Asked.{AskFacts}
 use Rattle.hook_api.specs.Shelf.{Shelf}
 use Rattle.hook_api.specs.declared.kept.Journal.{Journal}
+use Rattle.journal_check.specs.Accepted.{AreAccepted, IsPassed, IsWithinLimits}
+use Rattle.line_reader.specs.Lines.{lines_of}
+use Rattle.replay_run.specs.declared.replays.Closing.TheVariants.{Lines}
 use Rattle.replay_run.specs.Replays.{DoesNothing, HandsOut, ReplayOf}
+use Rattle.journals.specs.Asks.{asks_text}
 use Rattle.journals.specs.Texts.{journals_text}
+use Rattle.journals.specs.declared.words.Printed.{Printed}
+use Rattle.journals.specs.declared.words.Printed.TheVariants.{Report, Journals, Asks}
+
+-- A text of journals is accepted, and a check of it says so, unless it passes one of the check's limits.
+pub record IsAcceptedText (text : List ℕ) : Type 0 where
+  pub accepted : AreAccepted (lines_of text)
+  pub passes : IsWithinLimits (lines_of text) → IsPassed text
 
 -- The lines of the source are replayed, and the report goes nowhere. The journals that the replay hands out are printed whole, and
--- the status is the replay's; or a beginning of them is, and the status is 5 or 6.
+-- the status is the replay's; or a beginning of them is, and the status is 5 or 6. At every other status they are accepted.
 pub record PrintsJournals (status : ℕ) (shelf : Shelf) (met : Bool) (left left' held held' : Option (List ℕ)) : Type 0 where
   pub replayed : ℕ
   pub made : List Journal
   pub handed : List Journal
   pub heard : List AskFacts
   pub shelf' : Shelf
-  pub replay : ReplayOf replayed made heard shelf shelf' met left left' None None
+  pub replay : ReplayOf Lines replayed made heard shelf shelf' met left left' None None
   pub hands_out : HandsOut made handed (DoesNothing replayed heard shelf shelf' left left' None None)
   pub prints : ((status ≡ replayed) × Appends held held' (journals_text handed)) ⊎
       (((status ≡ 5) ⊎ (status ≡ 6)) × AppendsPrefix held held' (journals_text handed))
+  pub accepted : status ≢ 5 → status ≢ 6 → IsAcceptedText (journals_text handed)
+
+-- The lines of the source are replayed, and the report goes nowhere. The asks that the replay heard are printed whole, and the
+-- status is the replay's; or a beginning of them is, and the status is 5 or 6.
+pub record PrintsAsks (status : ℕ) (shelf : Shelf) (met : Bool) (left left' held held' : Option (List ℕ)) : Type 0 where
+  pub replayed : ℕ
+  pub made : List Journal
+  pub handed : List Journal
+  pub heard : List AskFacts
+  pub shelf' : Shelf
+  pub replay : ReplayOf Lines replayed made heard shelf shelf' met left left' None None
+  pub hands_out : HandsOut made handed (DoesNothing replayed heard shelf shelf' left left' None None)
+  pub prints : ((status ≡ replayed) × Appends held held' (asks_text heard)) ⊎
+      (((status ≡ 5) ⊎ (status ≡ 6)) × AppendsPrefix held held' (asks_text heard))
+
+-- The lines of the source are replayed, and the report is what is printed.
+pub record PrintsReport (status : ℕ) (shelf : Shelf) (met : Bool) (left left' held held' : Option (List ℕ)) : Type 0 where
+  pub made : List Journal
+  pub handed : List Journal
+  pub heard : List AskFacts
+  pub shelf' : Shelf
+  pub replay : ReplayOf Lines status made heard shelf shelf' met left left' held held'
+  pub hands_out : HandsOut made handed (DoesNothing status heard shelf shelf' left left' held held')
+
+-- what is printed of a run is what was asked for: its report, its journals or its asks
+abbrev pub PrintsRun : Printed → ℕ → Shelf → Bool → Option (List ℕ) → Option (List ℕ) → Option (List ℕ) → Option (List ℕ) → Type 0
+PrintsRun Report status shelf met left left' held held' = PrintsReport status shelf met left left' held held'
+PrintsRun Journals status shelf met left left' held held' = PrintsJournals status shelf met left left' held held'
+PrintsRun Asks status shelf met left left' held held' = PrintsAsks status shelf met left left' held held'

@@ -1,42 +1,21 @@
-//! A run that prints journals, over a source, a sink and a shelf of hooks.
+//! A run that prints its report, its journals or its asks, over a source, a sink and a shelf of hooks.
 
-ghost use Rattle.std.specs.Prelude.{◌≡◌, ◌⊎◌};
-ghost use Rattle.edge_io.specs.Bytes.{Rose};
-ghost use Rattle.journals.specs.Runs.{PrintsJournals};
+ghost use Rattle.journals.specs.Runs.{PrintsAsks, PrintsJournals, PrintsRun};
 
+use crate::asks::heard_text;
 use crate::printing::journals_text;
+use crate::words::{Printed, SINK_FAILED};
 use edge_io::{Failed, Sink, Source, WriteEdge, write_whole};
 use hook_api::{ExtentHooks, HookShelf};
-use replay_run::replay;
+use replay_run::{Closing, replay};
 use std::alloc::Global;
 use std::io;
-
-/// There were words.
-pub const BAD_WORDS: u8 = 2;
-
-/// A write to the sink failed.
-pub const SINK_FAILED: u8 = 5;
 
 /// Memory was wanting.
 pub const NO_MEMORY: u8 = 6;
 
-/// Writes the usage line, and gives status 2, or 5 where the sink failed.
-pub fn tell_usage<K: Sink>(sink: &mut K) -> u8
-    ensures status { (result ≡ 2) ⊎ (result ≡ 5) }
-    ensures write_fault { result ≡ 5 → Rose (K.faults sink.old) (K.faults sink.new) }
-{
-    match write_whole(sink, b"usage: journals\n") {
-        Ok(()) => BAD_WORDS,
-        Err(Failed) => SINK_FAILED,
-    }
-}
-
-/// Carries out the lines of a source over a new heap, asks the hooks of the shelf, and writes the journals of the 32 arenas: by
-/// arena, entry by entry, a line each, whatever the lines came to.
-///
-/// The status is that of the replay: 0, or 3 where a line can't be carried out, 4 where a read failed, and 7 where a limit was
-/// passed. It is 5 after a write that failed, and 6 where memory was wanting.
-pub fn print_run<S: Source, K: Sink, H: ExtentHooks>(
+/// Carries out the lines of a source, and writes the journals of the 32 arenas: by arena, entry by entry, a line each.
+fn print_journals<S: Source, K: Sink, H: ExtentHooks>(
     alloc: Global,
     source: &mut S,
     sink: &mut K,
@@ -44,12 +23,65 @@ pub fn print_run<S: Source, K: Sink, H: ExtentHooks>(
 ) -> u8
     ensures prints { PrintsJournals result shelf (S.ended source.new) (S.left source.old) (S.left source.new) (K.held sink.old) (K.held sink.new) }
 {
-    let replayed = replay(alloc, source, &mut WriteEdge::new(io::sink()), shelf);
+    let replayed = replay(
+        alloc,
+        source,
+        &mut WriteEdge::new(io::sink()),
+        shelf,
+        Closing::Lines,
+    );
     let Ok(text) = journals_text(alloc, replayed.journals.as_slice()) else {
         return NO_MEMORY;
     };
     match write_whole(sink, &text) {
         Ok(()) => replayed.status,
         Err(Failed) => SINK_FAILED,
+    }
+}
+
+/// Carries out the lines of a source, and writes all asks of hooks with their answers, in order, a line each.
+fn print_asks<S: Source, K: Sink, H: ExtentHooks>(
+    alloc: Global,
+    source: &mut S,
+    sink: &mut K,
+    shelf: HookShelf<H>,
+) -> u8
+    ensures prints { PrintsAsks result shelf (S.ended source.new) (S.left source.old) (S.left source.new) (K.held sink.old) (K.held sink.new) }
+{
+    let replayed = replay(
+        alloc,
+        source,
+        &mut WriteEdge::new(io::sink()),
+        shelf,
+        Closing::Lines,
+    );
+    let Ok(text) = heard_text(alloc, &replayed.heard) else {
+        return NO_MEMORY;
+    };
+    match write_whole(sink, &text) {
+        Ok(()) => replayed.status,
+        Err(Failed) => SINK_FAILED,
+    }
+}
+
+/// Carries out the lines of a source over a new heap, asks the hooks of the shelf, and writes what is wanted of the run. That is
+/// its report; or, whatever the lines came to, the journals of its arenas or the asks of its hooks.
+///
+/// The status is that of the replay: 0, or 3 where a line can't be carried out, 4 where a read failed, and 7 where a limit was
+/// passed. It is 5 after a write that failed, and 6 where memory was wanting. A check accepts journals that are written at every
+/// other status, unless they pass one of its limits.
+pub fn print_run<S: Source, K: Sink, H: ExtentHooks>(
+    alloc: Global,
+    source: &mut S,
+    sink: &mut K,
+    shelf: HookShelf<H>,
+    printed: Printed,
+) -> u8
+    ensures prints { PrintsRun printed result shelf (S.ended source.new) (S.left source.old) (S.left source.new) (K.held sink.old) (K.held sink.new) }
+{
+    match printed {
+        Printed::Report => replay(alloc, source, sink, shelf, Closing::Lines).status,
+        Printed::Journals => print_journals(alloc, source, sink, shelf),
+        Printed::Asks => print_asks(alloc, source, sink, shelf),
     }
 }

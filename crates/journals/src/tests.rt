@@ -1,38 +1,64 @@
 //! The program over sources and sinks in memory.
 
-use crate::runs::{print_run, tell_usage};
+use crate::runs::print_run;
+use crate::words::{BOXES, Wanted, tell_usage, wanted_by};
 use edge_io::{MemSink, MemSource};
 use hook_api::{HookShelf, RisingHooks};
+use ruled_hooks::RuledHooks;
 use std::alloc::{AllocError as NoMemory, Global};
 use std::test::Fail;
 
 const TRACE: &str = "t0 malloc a 20000\n";
+
+const REPORT: &str = "t0 malloc a @200000 20480\n\
+    arena 0 allocated 20480 active 20480 dirty 0 muzzy 0 retained 2076672 flight 0 mapped 20480\n";
 
 const JOURNAL: &str = "0 0 look 5 1\n\
     0 0 growdone alloc - 512 512 0 placed 512 1 1 -\n\
     0 0 cutdone split 512 512 5 done 1\n\
     0 0 land 512 5 37 1\n";
 
+const ASKS: &str = "box 0 alloc(NULL, 2097152, 2097152, false) -> 0x200000, true, true\n\
+    box 0 split(0x200000, 2097152, 20480) -> done\n";
+
 /// What came of a run: its status and its output.
 type Outcome = (u8, String);
 
-/// A shelf whose boxes place one range behind the other.
-fn rising(alloc: Global) -> Result<HookShelf<RisingHooks>, NoMemory> {
+/// A shelf whose boxes follow rules, and place one range behind the other.
+fn ruled(alloc: Global, wanted: &Wanted) -> Result<HookShelf<RuledHooks<RisingHooks>>, NoMemory> {
     let mut boxes = Vec::new(alloc);
-    while boxes.len() < 32 {
-        boxes.push(RisingHooks::new())?;
+    while boxes.len() < BOXES {
+        boxes.push(RuledHooks::new(RisingHooks::new(), wanted.rules[boxes.len()]))?;
     }
     Ok(HookShelf::new(boxes))
 }
 
-/// Prints the journals of a trace, where these reads and writes fail.
-fn outcome(alloc: Global, input: &str, reads: &[u64], writes: &[u64]) -> Result<Outcome, NoMemory> {
+/// What the program does by these words, where these reads and writes fail.
+fn outcome_by(
+    alloc: Global,
+    words: &[&str],
+    input: &str,
+    reads: &[u64],
+    writes: &[u64],
+) -> Result<Outcome, NoMemory> {
+    let mut list = Vec::new(alloc);
+    for word in words {
+        list.push(String::from_str(alloc, word)?)?;
+    }
     let mut source = MemSource::new(input.as_bytes().to_vec(alloc)?, reads.to_vec(alloc)?);
     let mut sink = MemSink::new(alloc, writes.to_vec(alloc)?);
-    let shelf = rising(alloc)?;
-    let status = print_run(alloc, &mut source, &mut sink, shelf);
+    let Some(wanted) = wanted_by(&list) else {
+        return Ok((tell_usage(&mut sink), String::new(alloc)));
+    };
+    let shelf = ruled(alloc, &wanted)?;
+    let status = print_run(alloc, &mut source, &mut sink, shelf, wanted.printed);
     let output = String::from_utf8_lossy(alloc, sink.held())?;
     Ok((status, output))
+}
+
+/// Prints the journals of a trace, where these reads and writes fail.
+fn outcome(alloc: Global, input: &str, reads: &[u64], writes: &[u64]) -> Result<Outcome, NoMemory> {
+    outcome_by(alloc, &[], input, reads, writes)
 }
 
 #[test]
@@ -54,6 +80,20 @@ fn journals_are_printed_whatever_the_lines_came_to(rt: HostRuntime) -> Result<()
 }
 
 #[test]
+fn each_word_prints_what_it_says(rt: HostRuntime) -> Result<(), Fail> {
+    let rows: [(&[&str], &str); 3] = [
+        (&["replay"], REPORT),
+        (&["journals"], JOURNAL),
+        (&["asks"], ASKS),
+    ];
+    for (words, wanted) in rows {
+        let (status, output) = outcome_by(rt.alloc(), words, TRACE, &[], &[])?;
+        assert_eq!(rt; (status, output.as_str()), (0, wanted));
+    }
+    Ok(())
+}
+
+#[test]
 fn a_failed_write_is_told(rt: HostRuntime) -> Result<(), Fail> {
     let (status, output) = outcome(rt.alloc(), TRACE, &[], &[1])?;
     assert_eq!(rt; (status, output.as_str()), (5, ""));
@@ -64,8 +104,58 @@ fn a_failed_write_is_told(rt: HostRuntime) -> Result<(), Fail> {
 fn words_get_the_usage_line(rt: HostRuntime) -> Result<(), Fail> {
     let mut sink = MemSink::new(rt.alloc(), Vec::new(rt.alloc()));
     assert_eq!(rt; tell_usage(&mut sink), 2);
-    assert_eq!(rt; sink.held(), b"usage: journals\n".as_slice());
+    assert_eq!(rt;
+        sink.held(),
+        b"usage: journals [replay|journals|asks [RULE..]]\n".as_slice()
+    );
     let mut failing = MemSink::new(rt.alloc(), [1].to_vec(rt.alloc())?);
     assert_eq!(rt; tell_usage(&mut failing), 5);
+    Ok(())
+}
+
+#[test]
+fn asks_are_printed_as_boxes_answer_by_their_rules(rt: HostRuntime) -> Result<(), Fail> {
+    // The words, and what stands last in the text.
+    let rows: [(&[&str], &str); 6] = [
+        (&["asks"], ASKS),
+        (&["asks", "1:pool:1"], ASKS),
+        (
+            &["asks", "0:pool:511"],
+            "box 0 alloc(NULL, 2097152, 2097152, false) -> refused\n",
+        ),
+        (
+            &["asks", "0:uncommitted"],
+            "-> done\nbox 0 commit(0x200000, 20480) -> done\n",
+        ),
+        (
+            &["asks", "0:refuse:split:1"],
+            "box 0 split(0x200000, 2097152, 20480) -> refused\n",
+        ),
+        (
+            &["asks", "0:wrong:1:7"],
+            "box 0 alloc(NULL, 2097152, 2097152, false) -> 0x7000, true, true\n",
+        ),
+    ];
+    for (words, wanted) in rows {
+        let (status, output) = outcome_by(rt.alloc(), words, TRACE, &[], &[])?;
+        assert_eq!(rt; (status, output.as_str().ends_with(wanted)), (0, true));
+    }
+    Ok(())
+}
+
+#[test]
+fn other_words_are_no_rules(rt: HostRuntime) -> Result<(), Fail> {
+    let rows: [&[&str]; 6] = [
+        &["ask"],
+        &["asks", "32:pool:1"],
+        &["asks", "0:pool:01"],
+        &["asks", "0:pool"],
+        &["asks", "0:refuse:ask:1"],
+        &["asks", "0:pool:1:"],
+    ];
+    for words in rows {
+        let (status, output) = outcome_by(rt.alloc(), words, TRACE, &[], &[])?;
+        assert_eq!(rt; (status, output.as_str()), (2, ""));
+    }
     Ok(())
 }

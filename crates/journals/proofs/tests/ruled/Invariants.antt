@@ -1,5 +1,5 @@
 use Rattle.std.proofs.Common.{◌-◌, ◌≤◌, vec_len}
-use Rattle.journals.proofs.tests.rising.Given as goal
+use Rattle.journals.proofs.tests.ruled.Given as goal
 
 abbrev pub invariant-loop-boxes : goal.invariant-loop-boxes
 invariant-loop-boxes l = vec_len l.boxes ≤ 32

@@ -1,8 +1,10 @@
 use Rattle.std.proofs.Common.{ℕ, List, inl, inr, refl, ◌∙◌, ap, subst}
+use Rattle.std.specs.List.{AllByRecursion}
 use Rattle.edge_io.specs.Bytes.{Appends, AppendsPrefix}
-use Rattle.journals.specs.Texts.{journals_text}
+use Rattle.journals.specs.Texts.{AreReadAgain, journals_text}
+use Rattle.journals.proofs.Accepted.{handed_accepted}
 use Rattle.journals.proofs.Nothing.{none_more}
-use Rattle.journals.proofs.runs.print_run.Goals as goal
+use Rattle.journals.proofs.runs.print_journals.Goals as goal
 
 pub returns-in_default : goal.returns-in_default
 returns-in_default g c =
@@ -16,13 +18,18 @@ returns-in_default g c =
         replay = told.replay.1;
         hands_out = told.replay.2;
         prints = inr (inr refl, none_more (g.K.Sink.held c.args.sink.now) (journals_text c.replay-replayed.result.journals));
+        accepted = λ sunk no_memory. absurd (no_memory refl);
       };
     }
 
 pub returns-in-Ok-write_whole : goal.returns-in-Ok-write_whole
 returns-in-Ok-write_whole g c =
     let told = c.replay-replayed.ensures in
-    let text = c.deref.ensures.value ∙ c.in-Ok.ensures.text ∙ ap journals_text c.as_slice.ensures.journals in record {
+    let text = c.deref.ensures.value ∙ c.in-Ok.ensures.text ∙ ap journals_text c.as_slice.ensures.journals in
+    let held = g.K.Sink.held c.args.sink.now in
+    let held' = g.K.Sink.held c.write_whole.new.sink in
+    let printed = subst (λ (t : List ℕ). Appends held held' t) text c.in-Ok-write_whole.ensures.ok in
+    let again = subst (AllByRecursion AreReadAgain) c.as_slice.ensures.journals c.in-Ok.ensures.again in record {
       prints = record {
         replayed = c.replay-replayed.result.status;
         made = told.replay.0;
@@ -31,7 +38,9 @@ returns-in-Ok-write_whole g c =
         shelf' = c.replay-replayed.result.shelf;
         replay = told.replay.1;
         hands_out = told.replay.2;
-        prints = inl (refl, subst (λ (t : List ℕ). Appends (g.K.Sink.held c.args.sink.now) (g.K.Sink.held c.write_whole.new.sink) t) text c.in-Ok-write_whole.ensures.ok);
+        prints = inl (refl, printed);
+        accepted = λ sunk no_memory.
+            handed_accepted c.replay-replayed.result.status told.replay.0 c.replay-replayed.result.journals c.replay-replayed.result.heard _ _ _ _ _ _ told.replay.1.events told.replay.1.ran told.replay.2 no_memory again;
       };
     }
 
@@ -48,5 +57,6 @@ returns g c =
         replay = told.replay.1;
         hands_out = told.replay.2;
         prints = inr (inl refl, subst (λ (t : List ℕ). AppendsPrefix (g.K.Sink.held c.args.sink.now) (g.K.Sink.held c.write_whole.new.sink) t) text c.in-Err.ensures.err);
+        accepted = λ sunk no_memory. absurd (sunk refl);
       };
     }
