@@ -1,8 +1,9 @@
 //! Boxes that share one space.
 
-ghost use Rattle.std.specs.Prelude.{◌≡◌, ◌+◌, ◌≤◌, IfOk};
+ghost use Rattle.std.specs.Prelude.{◌≡◌, ◌+◌, ◌≤◌, IfOk, replicate};
 ghost use Rattle.hook_api.specs.Counts.{capped, Rose};
 ghost use Rattle.hook_api.specs.Hooks.{HookCall, placed_answer, said_answer};
+ghost use Rattle.hook_api.specs.Shelf.{new_shelf};
 ghost use Rattle.addr_space.specs.Shared.{shared_account};
 
 use crate::space::AddrSpace;
@@ -65,7 +66,9 @@ impl<R: Wait + Clone + Send + Drop> SharedSpace<R> {
     }
 
     /// A shelf whose 32 boxes share one new space of addresses.
-    pub fn shelf(rt: &R, alloc: Global) -> Result<HookShelf<SharedSpace<R>>, NoMemory> {
+    pub fn shelf(rt: &R, alloc: Global) -> Result<HookShelf<SharedSpace<R>>, NoMemory>
+        ensures { IfOk result (λ shelf. shelf ≡ new_shelf (replicate 32 (shared_account 0))) }
+    {
         let first = SharedSpace::new(rt.clone()?, alloc, AddrSpace::new(alloc)?)?;
         let mut boxes = Vec::new(alloc);
         while boxes.len() < BOXES {

@@ -16,4 +16,5 @@ pub mod BookLands
 pub mod Rounds
 pub mod Totals
 pub mod Granted
+pub mod Chunks
 pub mod Lookups

@@ -1,5 +1,6 @@
 pub mod Arenas
 pub mod Booked
+pub mod Chunks
 pub mod Ends
 pub mod Indexes
 pub mod OfferLists

@@ -1,7 +1,7 @@
 //! One arena over its indexes: the step of `space_model`, by look-ups and never by scans.
 #![tactic(auto)]
 
-ghost use Rattle.std.specs.Prelude.{◌≡◌, ◌≢◌, ◌⊎◌, ◌<◌, ◌≤◌, ◌++◌, ◌∷◌, [], ℕ, false, true, replicate, IsTrue, IsOk, IfOk, OnOk, OnErr};
+ghost use Rattle.std.specs.Prelude.{◌≡◌, ◌≢◌, ◌⊎◌, ◌<◌, ◌≤◌, ◌++◌, ◌∷◌, [], ℕ, false, true, replicate, IsTrue, IsOk, IfOk, IfSome, MatchOption, OnOk, OnErr};
 ghost use Rattle.std.specs.List.{list_any};
 ghost use Rattle.space_model.specs.Span.{chunk_span, has_page, max_series, meets};
 ghost use Rattle.space_model.specs.Opening.{absent_space, first_space};
@@ -10,6 +10,8 @@ ghost use Rattle.space_model.specs.Sound.{Sound};
 ghost use Rattle.space_model.specs.Journal.{Good};
 ghost use Rattle.space_model.specs.Own.{mine};
 ghost use Rattle.space_model.specs.Counts.{counts_of};
+ghost use Rattle.space_model.specs.declared.TheConstants.{CHUNKS};
+ghost use Rattle.arena_core.specs.Chunks.{HasNoChunkFrom, IsNextChunk};
 ghost use Rattle.arena_core.specs.Arenas.{all_rooms, emptied_by_op, entry_of, given_by, opens, room_after, room_of, rooms_after, rooms_made};
 
 mod ends;
@@ -190,6 +192,15 @@ impl Arena {
         ensures { result ≡ list_any (λ p. meets p.span (chunk_span chunk)) self.now.space.parts }
     {
         readers::owns_chunk(&self.body.indexes, chunk)
+    }
+
+    /// The first chunk from this one on that an extent meets, if one does: from chunk to chunk it walks through those that the
+    /// arena owns.
+    pub fn next_chunk(&self, chunk: u64) -> Option<u64>
+        ensures next { MatchOption result (HasNoChunkFrom self.now.space.parts chunk) (IsNextChunk self.now.space.parts chunk) }
+        ensures bound { IfSome result (λ next. next ≤ CHUNKS) }
+    {
+        readers::next_chunk(&self.body.indexes, chunk)
     }
 
     /// Whether an extent has a page.

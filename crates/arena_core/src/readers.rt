@@ -1,10 +1,12 @@
 //! What is read of an arena's indexes.
 
-ghost use Rattle.std.specs.Prelude.{◌≡◌};
+ghost use Rattle.std.specs.Prelude.{◌≡◌, ◌≤◌, IfSome, MatchOption};
 ghost use Rattle.std.specs.List.{list_any};
 ghost use Rattle.space_model.specs.Span.{chunk_span, has_page, meets};
 ghost use Rattle.space_model.specs.Counts.{counts_of};
 ghost use Rattle.space_model.specs.Sound.{Sound};
+ghost use Rattle.space_model.specs.declared.TheConstants.{CHUNKS};
+ghost use Rattle.arena_core.specs.Chunks.{HasNoChunkFrom, IsNextChunk};
 ghost use Rattle.arena_core.specs.Indexes.{space_of};
 ghost use Rattle.arena_core.specs.Slabs.{IsBooked};
 
@@ -62,4 +64,23 @@ pub fn holds_page(indexes: &Indexes, page: u64) -> bool
     ensures { result ≡ list_any (λ p. has_page page p.span) (space_of indexes.now).parts }
 {
     indexes.extents.holding(page).is_some()
+}
+
+/// The first chunk from this one on that an extent meets, if one does.
+#[tactic(auto, using(crate::proofs::Chunks::met_itself, crate::proofs::Chunks::begins_inside))]
+pub fn next_chunk(indexes: &Indexes, chunk: u64) -> Option<u64>
+    requires { Sound (space_of indexes.now) }
+    ensures next { MatchOption result (HasNoChunkFrom (space_of indexes.now).parts chunk) (IsNextChunk (space_of indexes.now).parts chunk) }
+    ensures bound { IfSome result (λ next. next ≤ CHUNKS) }
+{
+    if chunk > CHUNKS {
+        return None;
+    }
+    if owns_chunk(indexes, chunk) {
+        return Some(chunk);
+    }
+    let Some(part) = indexes.extents.first_from(CHUNK_PAGES * chunk) else {
+        return None;
+    };
+    Some(part.span.first / CHUNK_PAGES)
 }

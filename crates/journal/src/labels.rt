@@ -63,7 +63,7 @@ const PLACES: usize = 128;
 const LONGEST: usize = 12;
 
 /// At the place that a word's bytes give, the only label that the word can have.
-const TABLE: [Label; PLACES] = [
+static TABLE: [Label; PLACES] = [
     Label::Look,
     Label::Look,
     Label::Look,

@@ -1,17 +1,9 @@
 -- Who owns a chunk.
-use Rattle.std.proofs.Common.{◌≡◌, ◌∙◌, ℕ, ◌+◌, ◌<◌, ◌≤◌, ◌⊎◌, inl, inr, Bool, true, false, List, [], ◌∷◌, length, get_or, Option, None, Some, refl, sym, ap, subst, arith}
+use Rattle.std.proofs.Common.{◌≡◌, ◌∙◌, ℕ, ◌+◌, ◌<◌, ◌≤◌, ◌⊎◌, inl, inr, Bool, true, false, List, length, get_or, max, min, Option, None, Some, refl, sym, ap, subst, arith}
 use Rattle.std.proofs.lemmas.Bool.{cases_lt}
 use Rattle.std.proofs.lemmas.List.{get_or_default, get_or_past}
-use Rattle.std.proofs.lemmas.List.Elements.{All-head}
-use Rattle.std.proofs.lemmas.List.Sums.{sum_by-cons}
-use Rattle.std.specs.List.{All, sum_by}
-use Rattle.space_model.specs.declared.parts.Part.{Part}
-use Rattle.space_model.specs.declared.spaces.Space.{Space}
-use Rattle.space_model.specs.Counts.{bytes_of, counts_of}
-use Rattle.space_model.specs.Sound.{Sound}
-use Rattle.space_model.specs.Span.{IsPlaced}
-use Rattle.space_model.proofs.Sums.{whole_sum}
-use Rattle.journal_check.specs.Apart.{AreLowest, HasOneOwner, IsApart, IsLowSoFar, IsOneSoFar, owns, owns_at}
+use Rattle.arena_core.specs.Chunks.{HasNoChunkFrom, IsNextChunk}
+use Rattle.journal_check.specs.Apart.{AreApart, AreFirstTwo, AreLowest, HasOneOwner, IsApart, IsLowSoFar, IsNextOwned, last_chunk, owns, owns_at}
 use Rattle.journal_check.specs.Logs.{Logged, unlogged}
 
 -- nothing past the last arena owns a chunk
@@ -72,51 +64,77 @@ low_only log chunk n None all none i j own own' = absurd (none i (omega (arith, 
 low_only log chunk n (Some low) all h i j own own' =
     h.2 i (omega (arith, owner_within log chunk i own)) own ∙ sym (h.2 j (omega (arith, owner_within log chunk j own')) own')
 
--- ---- one arena with extents
+-- ---- the first two arenas that own chunks
 
-pub one_none : (log : List Logged) → IsOneSoFar log 0 false
-one_none log chunk i lt is = absurd (omega (arith, lt))
+-- what an arena owns from a chunk on begins with the next chunk that it owns, or past all chunks
+pub next_is : (arena : Logged) (chunk next : ℕ) → IsNextChunk arena.space.parts chunk next → IsNextOwned arena chunk next
+next_is arena chunk next is = record {
+  above = is.above;
+  first = λ other above last own. elim (cases_lt other next) [ inl less ↦ absurd (let free = is.first other above less in cc) | inr from ↦ from ];
+}
 
--- an arena without extents owns nothing
-pub one_skips : (log : List Logged) (n : ℕ) (read : Logged) (has : Bool) → n < length log → read ≡ get_or log n read → read.space.parts ≡ [] → IsOneSoFar log n has → IsOneSoFar log (n + 1) has
-one_skips log n read has within is empty so = skip has so
+pub next_none : (arena : Logged) (chunk next : ℕ) → HasNoChunkFrom arena.space.parts chunk → chunk ≤ next → IsNextOwned arena chunk next
+next_none arena chunk next none below = record {
+  above = below;
+  first = λ other above last own. absurd (let free = none other above in cc);
+}
+
+pub two_begin : (log : List Logged) (chunk : ℕ) → chunk ≤ last_chunk → AreFirstTwo log chunk 0 (last_chunk + 1) (last_chunk + 1)
+two_begin log chunk inside = record {
+  above_least = omega (arith, inside);
+  above_second = omega (arith, inside);
+  none = λ other i above last lt own. absurd (omega (arith, lt));
+  one = λ other i j above last below lt lt' own own'. absurd (omega (arith, lt));
+}
+
+-- one more arena
+pub two_go : (log : List Logged) (chunk n least second next : ℕ) (read : Logged) → n < length log → read ≡ get_or log n read → IsNextOwned read chunk next
+    → AreFirstTwo log chunk n least second → AreFirstTwo log chunk (n + 1) (min least next) (min second (max least next))
+two_go log chunk n least second next read within is own two = record {
+  above_least = omega (arith, two.above_least, own.above);
+  above_second = omega (arith, two.above_least, two.above_second, own.above);
+  none = λ other i above last lt owned. elim (earlier i n lt) [
+    | inl less ↦ let le = two.none other i above last less owned in omega (arith, le)
+    | inr same ↦ let le = from other above last (subst (λ (j : ℕ). owns_at other log j ≡ true) same owned) in omega (arith, le)
+  ];
+  one = λ other i j above last below lt lt' owned owned'. elim (earlier i n lt) [
+    | inl less ↦ elim (earlier j n lt') [
+      | inl less' ↦ two.one other i j above last (omega (arith, below)) less less' owned owned'
+      | inr same' ↦ absurd (let low = two.none other i above last less owned in let high = from other above last (subst (λ (k : ℕ). owns_at other log k ≡ true) same' owned') in omega (arith, below, low, high))
+    ]
+    | inr same ↦ elim (earlier j n lt') [
+      | inl less' ↦ absurd (let low = two.none other j above last less' owned' in let high = from other above last (subst (λ (k : ℕ). owns_at other log k ≡ true) same owned) in omega (arith, below, low, high))
+      | inr same' ↦ same ∙ sym same'
+    ]
+  ];
+}
   where
-    free : (chunk : ℕ) → owns_at chunk log n ≡ false
-    free chunk = owns_read log chunk n read false within is (sym (rw empty refl))
+    from : (other : ℕ) → chunk ≤ other → other ≤ last_chunk → owns_at other log n ≡ true → next ≤ other
+    from other above last owned = own.first other above last (sym (owns_read log other n read (owns other read) within is refl) ∙ owned)
 
-    not : (chunk i : ℕ) → i ≡ n → owns_at chunk log i ≡ true → ⊥
-    not chunk i same own = let none = free chunk in let here = subst (λ (j : ℕ). owns_at chunk log j ≡ true) same own in cc
+-- with all arenas, no chunk before the second has two owners
+pub two_apart : (log : List Logged) (chunk n least second : ℕ) → length log ≤ n → AreFirstTwo log chunk n least second → AreApart log chunk second
+two_apart log chunk n least second all two other above below last i j own own' =
+    two.one other i j above last below (omega (arith, owner_within log other i own)) (omega (arith, owner_within log other j own')) own own'
 
-    skip : (has : Bool) → IsOneSoFar log n has → IsOneSoFar log (n + 1) has
-    skip false none = λ chunk i lt own. elim (earlier i n lt) [ inl less ↦ none chunk i less own | inr same ↦ not chunk i same own ]
-    skip true one = λ chunk other i j lt lt' own own'.
-        elim (earlier i n lt) [
-          | inr same ↦ absurd (not chunk i same own)
-          | inl less ↦ elim (earlier j n lt') [ inl less' ↦ one chunk other i j less less' own own' | inr same' ↦ absurd (not other j same' own') ]
-        ]
+-- ---- the least chunk with two owners
 
--- the first one with extents may own chunks
-pub one_first : (log : List Logged) (n : ℕ) → IsOneSoFar log n false → IsOneSoFar log (n + 1) true
-one_first log n none chunk other i j lt lt' own own' =
-    elim (earlier i n lt) [
-      | inl less ↦ absurd (none chunk i less own)
-      | inr same ↦ elim (earlier j n lt') [ inl less' ↦ absurd (none other j less' own') | inr same' ↦ same ∙ sym same' ]
+-- a chunk with one owner goes on from those before it
+pub apart_goes : (log : List Logged) (chunk second : ℕ) → AreApart log 1 chunk → AreApart log chunk second → HasOneOwner log second → AreApart log 1 (second + 1)
+apart_goes log chunk second before between one other above below last =
+    elim (cases_lt other chunk) [
+      | inl less ↦ before other above less last
+      | inr from ↦ elim (cases_lt other second) [
+        | inl less ↦ between other from less last
+        | inr past ↦ subst (λ (c : ℕ). HasOneOwner log c) (omega (arith, past, below)) one
+      ]
     ]
 
--- where that is the only one, no chunk has two owners
-pub one_apart : (log : List Logged) (n : ℕ) (has : Bool) → length log ≤ n → IsOneSoFar log n has → IsApart log
-one_apart log n false all none chunk low high i j own own' = absurd (none chunk i (omega (arith, owner_within log chunk i own)) own)
-one_apart log n true all one chunk low high i j own own' =
-    one chunk chunk i j (omega (arith, owner_within log chunk i own)) (omega (arith, owner_within log chunk j own')) own own'
+-- no two arenas meet before the first chunk that two own
+pub apart_before : (log : List Logged) (chunk second : ℕ) → AreApart log 1 chunk → AreApart log chunk second → AreApart log 1 second
+apart_before log chunk second before between other above below last =
+    elim (cases_lt other chunk) [ inl less ↦ before other above less last | inr from ↦ between other from below last ]
 
--- ---- an arena without bytes
-
--- it has no extent, since each has a page
-pub no_bytes : (s : Space) → Sound s → (counts_of s).mapped ≡ 0 → (counts_of s).retained ≡ 0 → s.parts ≡ []
-no_bytes s sound unmapped none = empty s.parts sound.placed (omega (arith, whole_sum s.parts, unmapped, none))
-  where
-    empty : (parts : List Part) → All (λ p. IsPlaced p.span) parts → sum_by bytes_of parts ≡ 0 → parts ≡ []
-    empty [] placed zero = refl
-    empty (p ∷ ps) placed zero =
-        let some = (All-head (λ (q : Part). IsPlaced q.span) p ps placed).0 in
-        absurd (omega (arith, zero, sum_by-cons bytes_of p ps, some))
+-- nor at all, where that lies past all chunks
+pub apart_all : (log : List Logged) (second : ℕ) → last_chunk < second → AreApart log 1 second → IsApart log
+apart_all log second past before chunk low high = before chunk low (omega (arith, past, high)) high

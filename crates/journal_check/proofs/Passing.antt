@@ -1,13 +1,12 @@
 -- An input is accepted just where its journals are.
-use Rattle.std.proofs.Common.{◌≡◌, ◌∙◌, ℕ, ◌^◌, ◌<◌, ◌≤◌, Bool, true, List, [], ◌∷◌, length, refl, sym, ap, arith}
+use Rattle.std.proofs.Common.{◌≡◌, ◌∙◌, ℕ, ◌^◌, ◌<◌, ◌≤◌, List, [], ◌∷◌, length, refl, sym, ap, arith}
 use Rattle.std.specs.List.{AllByRecursion, list_any}
 use Rattle.space_model.specs.declared.spaces.Space.{Space}
 use Rattle.space_model.specs.Span.{chunk_span, meets}
 use Rattle.line_reader.specs.Lines.{Line, lines_of}
-use Rattle.journal_check.specs.Accepted.{AcceptedInputsPass, AreAccepted, IsGoodLine, IsLeft, IsPassed, IsStanding, IsWholeLine, IsWithinLimits, PassedInputsAreAccepted, owns_left}
+use Rattle.journal_check.specs.Accepted.{AcceptedInputsPass, IsGoodLine, IsLeft, IsStanding, IsWholeLine, PassedInputsAreAccepted, owns_left}
 use Rattle.journal_check.specs.Apart.{IsApart, owns_at}
 use Rattle.journal_check.specs.Logs.{Logged, all_entries, ends_from}
-use Rattle.journal_check.specs.Verdicts.{IsAccepted, Left, judgement}
 use Rattle.journal_check.proofs.Accepting.{standing_whole, whole_stands}
 use Rattle.journal_check.proofs.Owners.{owner_within}
 

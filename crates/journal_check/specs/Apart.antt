@@ -1,5 +1,5 @@
 -- Chunks that two arenas own.
-use Rattle.std.specs.Prelude.{◌≡◌, ℕ, ◌<◌, ◌≤◌, ◌⊎◌, Bool, true, false, List, Option, None, Some}
+use Rattle.std.specs.Prelude.{◌≡◌, ℕ, ◌<◌, ◌≤◌, ◌⊎◌, Bool, true, List, Option, None, Some}
 use Rattle.std.specs.List.{list_any}
 use Rattle.space_model.specs.Span.{chunk_span, meets}
 use Rattle.journal_check.specs.Logs.{Logged, arena_at}
@@ -43,8 +43,19 @@ IsLowSoFar log chunk count None = (i : ℕ) → i < count → owns_at chunk log 
 IsLowSoFar log chunk count (Some low) =
     (low < count) × (owns_at chunk log low ≡ true) × ((i : ℕ) → i < count → owns_at chunk log i ≡ true → i ≡ low)
 
--- of so many arenas one may own chunks, or none does
-abbrev pub IsOneSoFar : List Logged → ℕ → Bool → Type 0
-IsOneSoFar log count false = (chunk i : ℕ) → i < count → owns_at chunk log i ≡ true → ⊥
-IsOneSoFar log count true =
-    (chunk other i j : ℕ) → i < count → j < count → owns_at chunk log i ≡ true → owns_at other log j ≡ true → i ≡ j
+-- no chunk from the first one up to the second has two owners
+abbrev pub AreApart : List Logged → ℕ → ℕ → Type 0
+AreApart log low high = (chunk : ℕ) → low ≤ chunk → chunk < high → chunk ≤ last_chunk → HasOneOwner log chunk
+
+-- An arena owns no chunk from one on before the next one.
+pub record IsNextOwned (arena : Logged) (chunk next : ℕ) : Type 0 where
+  pub above : chunk ≤ next
+  pub first : (other : ℕ) → chunk ≤ other → other ≤ last_chunk → owns other arena ≡ true → next ≤ other
+
+-- Of so many arenas, none owns a chunk from one on before the least, and no two own one of these before the second.
+pub record AreFirstTwo (log : List Logged) (chunk count least second : ℕ) : Type 0 where
+  pub above_least : chunk ≤ least
+  pub above_second : chunk ≤ second
+  pub none : (other i : ℕ) → chunk ≤ other → other ≤ last_chunk → i < count → owns_at other log i ≡ true → least ≤ other
+  pub one : (other i j : ℕ) → chunk ≤ other → other ≤ last_chunk → other < second → i < count → j < count
+      → owns_at other log i ≡ true → owns_at other log j ≡ true → i ≡ j

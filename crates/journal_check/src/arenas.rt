@@ -1,8 +1,9 @@
 //! One arena, as its journal leaves it.
 
-ghost use Rattle.std.specs.Prelude.{◌≡◌, ◌-◌, ◌<◌, ◌^◌, [], IfOk, IsTrue, OnErr, OnOk};
+ghost use Rattle.std.specs.Prelude.{◌≡◌, ◌-◌, ◌<◌, ◌≤◌, ◌^◌, IfOk, IfSome, IsTrue, MatchOption, OnErr, OnOk};
 ghost use Rattle.space_model.specs.Stepped.{is_live};
-ghost use Rattle.journal_check.specs.Apart.{owns};
+ghost use Rattle.arena_core.specs.Chunks.{HasNoChunkFrom, IsNextChunk};
+ghost use Rattle.journal_check.specs.Apart.{last_chunk, owns};
 ghost use Rattle.journal_check.specs.Logs.{end_of, entered, may_enter, unlogged};
 
 use crate::verdicts::End;
@@ -77,13 +78,12 @@ impl Replica {
         self.arena.owns_chunk(chunk)
     }
 
-    /// Whether it has no extent.
-    #[tactic(auto, using(crate::proofs::Owners::no_bytes))]
-    pub fn is_empty(&self) -> bool
-        ensures { IsTrue result → self.now.space.parts ≡ [] }
+    /// The first chunk from this one on that an extent of it meets, if one does.
+    pub fn next_chunk(&self, chunk: u64) -> Option<u64>
+        ensures next { MatchOption result (HasNoChunkFrom self.now.space.parts chunk) (IsNextChunk self.now.space.parts chunk) }
+        ensures bound { IfSome result (λ next. next ≤ last_chunk) }
     {
-        let counts = self.arena.counts();
-        counts.mapped == 0 && counts.retained == 0
+        self.arena.next_chunk(chunk)
     }
 
     /// Whether it serves requests.

@@ -1,7 +1,7 @@
 //! The chunks that two arenas own.
 
-ghost use Rattle.std.specs.Prelude.{◌≡◌, length, IsTrue, MatchOption};
-ghost use Rattle.journal_check.specs.Apart.{AreLowest, HasOneOwner, IsApart, IsMeeting};
+ghost use Rattle.std.specs.Prelude.{◌≡◌, ◌+◌, ◌≤◌, length, MatchOption};
+ghost use Rattle.journal_check.specs.Apart.{AreApart, AreLowest, HasOneOwner, IsApart, IsMeeting, IsNextOwned, last_chunk};
 
 use crate::arenas::Replica;
 use space_model::CHUNKS;
@@ -34,21 +34,34 @@ fn lowest_owners(arenas: &[Replica], chunk: u64) -> Option<(u32, u32)>
     None
 }
 
-/// Whether at most one arena has extents, told for sure only where that is so.
-fn one_has_extents(arenas: &[Replica]) -> bool
-    requires { length arenas.now ≡ 32 }
-    ensures { IsTrue result → IsApart arenas.now }
+/// The first chunk from this one on that an arena owns, or a number past all chunks.
+fn next_owned(arena: &Replica, chunk: u64) -> u64
+    requires { chunk ≤ last_chunk }
+    ensures next { IsNextOwned arena.now chunk result }
+    ensures bound { result ≤ last_chunk + 1 }
 {
-    let mut has_one = false;
-    for arena in arenas {
-        if !arena.is_empty() {
-            if has_one {
-                return false;
-            }
-            has_one = true;
-        }
+    match arena.next_chunk(chunk) {
+        Some(next) => next,
+        None => CHUNKS + 1,
     }
-    true
+}
+
+/// The first chunk from this one on to which two arenas own some, or a number past all chunks: none has two owners before it.
+fn second_owned(arenas: &[Replica], chunk: u64) -> u64
+    requires number { length arenas.now ≡ 32 }
+    requires chunk { chunk ≤ last_chunk }
+    ensures above { chunk ≤ result }
+    ensures apart { AreApart arenas.now chunk result }
+    ensures bound { result ≤ last_chunk + 1 }
+{
+    let mut least = CHUNKS + 1;
+    let mut second = CHUNKS + 1;
+    for arena in arenas {
+        let next = next_owned(arena, chunk);
+        second = second.min(least.max(next));
+        least = least.min(next);
+    }
+    second
 }
 
 /// The least chunk that two arenas own, if there is one.
@@ -56,13 +69,20 @@ pub fn first_meeting(arenas: &[Replica]) -> Option<Meeting>
     requires { length arenas.now ≡ 32 }
     ensures { MatchOption result (IsApart arenas.now) (λ m. IsMeeting arenas.now m.chunk m.low m.high) }
 {
-    if one_has_extents(arenas) {
-        return None;
-    }
-    for chunk in 1..CHUNKS + 1 {
-        if let Some((low, high)) = lowest_owners(arenas, chunk) {
-            return Some(Meeting { chunk, low, high });
+    let mut chunk = 1;
+    while chunk <= CHUNKS {
+        let second = second_owned(arenas, chunk);
+        if second > CHUNKS {
+            return None;
         }
+        if let Some((low, high)) = lowest_owners(arenas, second) {
+            return Some(Meeting {
+                chunk: second,
+                low,
+                high,
+            });
+        }
+        chunk = second + 1;
     }
     None
 }

@@ -2,3 +2,4 @@ mod Nothing
 mod Printed
 mod Arenas
 mod Accepted
+mod Ruled

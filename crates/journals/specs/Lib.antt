@@ -1,3 +1,4 @@
 pub mod Texts
 pub mod Asks
 pub mod Runs
+pub mod Wanted

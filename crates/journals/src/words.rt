@@ -1,7 +1,8 @@
 //! The words that the program is given.
 
-ghost use Rattle.std.specs.Prelude.{◌≡◌, ◌⊎◌};
+ghost use Rattle.std.specs.Prelude.{◌≡◌, ◌⊎◌, map, string_bytes};
 ghost use Rattle.edge_io.specs.Bytes.{Rose};
+ghost use Rattle.journals.specs.Wanted.{printed_by, ruled_by, unruled, wanted_of};
 
 use edge_io::{Failed, Sink, write_whole};
 use ruled_hooks::{Rules, read_rule};
@@ -36,7 +37,10 @@ pub struct Wanted {
 }
 
 /// What the first word asks for.
-fn printed_by(word: &str) -> Option<Printed> {
+#[tactic(auto, unfolding(crate::specs::Wanted::printed_by))]
+fn printed_by(word: &str) -> Option<Printed>
+    ensures { result ≡ printed_by word.now }
+{
     match word {
         "replay" => Some(Printed::Report),
         "journals" => Some(Printed::Journals),
@@ -46,19 +50,23 @@ fn printed_by(word: &str) -> Option<Printed> {
 }
 
 /// The rules of the 32 boxes, if each of the words is a rule of one.
-fn rules_by(words: &[String]) -> Option<[Rules; BOXES]> {
+#[tactic(auto, using(crate::proofs::Ruled::ruled_next))]
+fn rules_by(words: &[String]) -> Option<[Rules; BOXES]>
+    ensures { result ≡ ruled_by unruled (map string_bytes words.now) }
+{
     let mut rules = [Rules::none(); BOXES];
     for word in words {
         let (box_no, rule) = read_rule(word.as_bytes())?;
-        let of_box = rules.get_mut(box_no)?;
-        *of_box = of_box.with(rule);
+        rules[box_no] = rules[box_no].with(rule);
     }
     Some(rules)
 }
 
 /// What the words, without the program's name, ask for, if they ask for anything: `replay`, `journals` or `asks`, and rules of
 /// boxes behind it. No words ask for journals over boxes without rules.
-pub fn wanted_by(words: &[String]) -> Option<Wanted> {
+pub fn wanted_by(words: &[String]) -> Option<Wanted>
+    ensures { result ≡ wanted_of (map string_bytes words.now) }
+{
     let Some((first, others)) = words.split_first() else {
         return Some(Wanted {
             printed: Printed::Journals,

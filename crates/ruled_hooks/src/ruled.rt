@@ -1,8 +1,10 @@
 //! A box behind rules.
 
-ghost use Rattle.std.specs.Prelude.{◌≡◌, ◌≢◌, ◌%◌, ◌≤◌, false, true, IfSome, None};
+ghost use Rattle.std.specs.Prelude.{◌≡◌, ◌+◌, ◌≤◌, false, true, IfSome, IsTrue, None};
 ghost use Rattle.hook_api.specs.Counts.{capped, Rose};
 ghost use Rattle.hook_api.specs.Hooks.{HookCall, placed_answer, said_answer};
+ghost use Rattle.ruled_hooks.specs.Ruled.{is_due, ruled_account};
+ghost use Rattle.ruled_hooks.specs.Rules.{may_merge_at};
 
 use crate::rules::{KINDS, Rules, place_of};
 use hook_api::{ExtentHooks, Kind, Placed, Said};
@@ -37,6 +39,7 @@ impl<H: ExtentHooks> RuledHooks<H> {
 
     /// Counts an ask of a kind, and tells whether a rule refuses it.
     fn is_due(&mut self, kind: Kind) -> bool
+        ensures due { result ≡ is_due self.old.rules self.old.asks kind }
         ensures rules { self.new.rules ≡ self.old.rules }
         ensures out { self.new.out ≡ self.old.out }
         ensures refusals { self.new.refusals ≡ self.old.refusals }
@@ -62,6 +65,7 @@ impl<H: ExtentHooks> RuledHooks<H> {
     /// What the hooks behind said, counted where they refuse.
     fn hear(&mut self, said: Said) -> Said
         ensures same { result ≡ said }
+        ensures rules { self.new.rules ≡ self.old.rules }
         ensures rose { said ≡ Said.Refused → Rose self.old.refusals self.new.refusals }
         ensures never_falls { self.old.refusals ≤ self.new.refusals }
     {
@@ -72,7 +76,9 @@ impl<H: ExtentHooks> RuledHooks<H> {
     }
 
     /// Whether an alloc of so many pages stays within the pool.
-    fn has_room(&self, pages: u64) -> bool {
+    fn has_room(&self, pages: u64) -> bool
+        ensures { IsTrue result → self.now.out + pages ≤ self.now.rules.pool }
+    {
         self.out <= self.rules.pool && pages <= self.rules.pool - self.out
     }
 
@@ -88,6 +94,7 @@ impl<H: ExtentHooks> RuledHooks<H> {
 
     /// So many pages are out no more.
     fn take_back(&mut self, span: Span)
+        ensures rules { self.new.rules ≡ self.old.rules }
         ensures refusals { self.new.refusals ≡ self.old.refusals }
     {
         self.out = self.out.saturating_sub(span.pages);
@@ -95,6 +102,7 @@ impl<H: ExtentHooks> RuledHooks<H> {
 
     /// A range of the hooks behind, where they have one, or a wrong one.
     fn place(&mut self, at: Option<u64>, pages: u64, align: u64, commit: bool) -> Option<Placed>
+        ensures rules { self.new.rules ≡ self.old.rules }
         ensures refusals { self.new.refusals ≡ self.old.refusals }
     {
         if let Some(first) = self.wrong_place() {
@@ -111,9 +119,15 @@ impl<H: ExtentHooks> RuledHooks<H> {
 }
 
 impl<H: ExtentHooks> ExtentHooks for RuledHooks<H> {
-    ghost account = { λ h. record { told = None; refusals = h.refusals } };
+    ghost account = { λ h. ruled_account h.refusals };
 
-    fn alloc(&mut self, at: Option<u64>, pages: u64, align: u64, commit: bool) -> Option<Placed> {
+    fn alloc(&mut self, at: Option<u64>, pages: u64, align: u64, commit: bool) -> Option<Placed>
+        ensures hook { HookCall (ruled_account self.old.refusals) (Ask.Alloc commit at pages align) (placed_answer result) (ruled_account self.new.refusals) }
+        ensures rules { self.new.rules ≡ self.old.rules }
+        ensures due { is_due self.old.rules self.old.asks Kind.Alloc ≡ true → result ≡ None }
+        ensures pool { IfSome result (λ _. self.old.out + pages ≤ self.old.rules.pool) }
+        ensures uncommitted { self.old.rules.uncommitted ≡ true → IfSome result (λ placed. placed.committed ≡ false) }
+    {
         if self.is_due(Kind::Alloc) || !self.has_room(pages) {
             self.refuse();
             return None;
@@ -128,7 +142,11 @@ impl<H: ExtentHooks> ExtentHooks for RuledHooks<H> {
         })
     }
 
-    fn dalloc(&mut self, span: Span, committed: bool) -> Said {
+    fn dalloc(&mut self, span: Span, committed: bool) -> Said
+        ensures hook { HookCall (ruled_account self.old.refusals) (Ask.Dalloc span committed) (said_answer result) (ruled_account self.new.refusals) }
+        ensures rules { self.new.rules ≡ self.old.rules }
+        ensures due { is_due self.old.rules self.old.asks Kind.Dalloc ≡ true → result ≡ Said.Refused }
+    {
         if self.is_due(Kind::Dalloc) {
             return self.refuse();
         }
@@ -139,12 +157,19 @@ impl<H: ExtentHooks> ExtentHooks for RuledHooks<H> {
         self.hear(said)
     }
 
-    fn destroy(&mut self, span: Span, committed: bool) {
+    fn destroy(&mut self, span: Span, committed: bool)
+        ensures hook { HookCall (ruled_account self.old.refusals) (Ask.Destroy span committed) Answer.Done (ruled_account self.new.refusals) }
+        ensures rules { self.new.rules ≡ self.old.rules }
+    {
         self.take_back(span);
         self.inner.destroy(span, committed);
     }
 
-    fn commit(&mut self, span: Span) -> Said {
+    fn commit(&mut self, span: Span) -> Said
+        ensures hook { HookCall (ruled_account self.old.refusals) (Ask.Commit span) (said_answer result) (ruled_account self.new.refusals) }
+        ensures rules { self.new.rules ≡ self.old.rules }
+        ensures due { is_due self.old.rules self.old.asks Kind.Commit ≡ true → result ≡ Said.Refused }
+    {
         if self.is_due(Kind::Commit) {
             return self.refuse();
         }
@@ -152,7 +177,11 @@ impl<H: ExtentHooks> ExtentHooks for RuledHooks<H> {
         self.hear(said)
     }
 
-    fn decommit(&mut self, span: Span) -> Said {
+    fn decommit(&mut self, span: Span) -> Said
+        ensures hook { HookCall (ruled_account self.old.refusals) (Ask.Decommit span) (said_answer result) (ruled_account self.new.refusals) }
+        ensures rules { self.new.rules ≡ self.old.rules }
+        ensures due { is_due self.old.rules self.old.asks Kind.Decommit ≡ true → result ≡ Said.Refused }
+    {
         if self.is_due(Kind::Decommit) {
             return self.refuse();
         }
@@ -160,7 +189,11 @@ impl<H: ExtentHooks> ExtentHooks for RuledHooks<H> {
         self.hear(said)
     }
 
-    fn purge_lazy(&mut self, span: Span) -> Said {
+    fn purge_lazy(&mut self, span: Span) -> Said
+        ensures hook { HookCall (ruled_account self.old.refusals) (Ask.PurgeLazy span) (said_answer result) (ruled_account self.new.refusals) }
+        ensures rules { self.new.rules ≡ self.old.rules }
+        ensures due { is_due self.old.rules self.old.asks Kind.PurgeLazy ≡ true → result ≡ Said.Refused }
+    {
         if self.is_due(Kind::PurgeLazy) {
             return self.refuse();
         }
@@ -168,7 +201,11 @@ impl<H: ExtentHooks> ExtentHooks for RuledHooks<H> {
         self.hear(said)
     }
 
-    fn purge_forced(&mut self, span: Span) -> Said {
+    fn purge_forced(&mut self, span: Span) -> Said
+        ensures hook { HookCall (ruled_account self.old.refusals) (Ask.PurgeForced span) (said_answer result) (ruled_account self.new.refusals) }
+        ensures rules { self.new.rules ≡ self.old.rules }
+        ensures due { is_due self.old.rules self.old.asks Kind.PurgeForced ≡ true → result ≡ Said.Refused }
+    {
         if self.is_due(Kind::PurgeForced) {
             return self.refuse();
         }
@@ -176,7 +213,11 @@ impl<H: ExtentHooks> ExtentHooks for RuledHooks<H> {
         self.hear(said)
     }
 
-    fn split(&mut self, span: Span, left: u64) -> Said {
+    fn split(&mut self, span: Span, left: u64) -> Said
+        ensures hook { HookCall (ruled_account self.old.refusals) (Ask.Split span left) (said_answer result) (ruled_account self.new.refusals) }
+        ensures rules { self.new.rules ≡ self.old.rules }
+        ensures due { is_due self.old.rules self.old.asks Kind.Split ≡ true → result ≡ Said.Refused }
+    {
         if self.is_due(Kind::Split) {
             return self.refuse();
         }
@@ -184,7 +225,12 @@ impl<H: ExtentHooks> ExtentHooks for RuledHooks<H> {
         self.hear(said)
     }
 
-    fn merge(&mut self, low: Span, high: Span) -> Said {
+    fn merge(&mut self, low: Span, high: Span) -> Said
+        ensures hook { HookCall (ruled_account self.old.refusals) (Ask.Merge low high) (said_answer result) (ruled_account self.new.refusals) }
+        ensures rules { self.new.rules ≡ self.old.rules }
+        ensures due { is_due self.old.rules self.old.asks Kind.Merge ≡ true → result ≡ Said.Refused }
+        ensures border { result ≡ Said.Done → may_merge_at self.old.rules high.first ≡ true }
+    {
         if self.is_due(Kind::Merge) || !self.rules.may_merge_at(high.first) {
             return self.refuse();
         }
@@ -192,7 +238,9 @@ impl<H: ExtentHooks> ExtentHooks for RuledHooks<H> {
         self.hear(said)
     }
 
-    fn refusals(&self) -> u64 {
+    fn refusals(&self) -> u64
+        ensures { result ≡ self.now.refusals }
+    {
         self.refusals
     }
 }

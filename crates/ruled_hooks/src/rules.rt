@@ -1,6 +1,7 @@
 //! The rules that a box may follow.
 
-ghost use Rattle.std.specs.Prelude.{◌≡◌, ◌<◌, ◌≤◌};
+ghost use Rattle.std.specs.Prelude.{◌≡◌, ◌<◌, slice_set};
+ghost use Rattle.ruled_hooks.specs.Rules.{may_merge_at, no_rules, place_of, refuses, with_rule};
 
 use hook_api::Kind;
 
@@ -46,7 +47,8 @@ pub struct Rules {
 
 /// The number of a kind, below 8.
 pub(crate) fn place_of(kind: Kind) -> usize
-    ensures { result < 8 }
+    ensures place { result ≡ place_of kind }
+    ensures bound { result < 8 }
 {
     match kind {
         Kind::Alloc => 0,
@@ -62,7 +64,9 @@ pub(crate) fn place_of(kind: Kind) -> usize
 
 impl Rules {
     /// No rule: the box does what the box behind it does.
-    pub fn none() -> Rules {
+    pub fn none() -> Rules
+        ensures { result ≡ no_rules }
+    {
         Rules {
             pool: u64::MAX,
             every: [0; KINDS],
@@ -74,7 +78,9 @@ impl Rules {
     }
 
     /// These rules and one more, which takes the place of an earlier one of its kind.
-    pub fn with(self, rule: Rule) -> Rules {
+    pub fn with(self, rule: Rule) -> Rules
+        ensures { result ≡ with_rule self rule }
+    {
         match rule {
             Rule::Pool(pages) => Rules {
                 pool: pages,
@@ -97,20 +103,27 @@ impl Rules {
         }
     }
 
-    fn refusing(self, kind: Kind, nth: u64) -> Rules {
+    /// These rules, with which of the asks of a kind every so-manieth is refused.
+    fn refusing(self, kind: Kind, nth: u64) -> Rules
+        ensures { result ≡ record self { every = slice_set self.every (place_of kind) nth } }
+    {
         let mut every = self.every;
         every[place_of(kind)] = nth;
         Rules { every, ..self }
     }
 
     /// Whether the so-manieth ask of a kind is refused.
-    pub(crate) fn refuses(&self, kind: Kind, count: u64) -> bool {
+    pub(crate) fn refuses(&self, kind: Kind, count: u64) -> bool
+        ensures { result ≡ refuses self.now kind count }
+    {
         let every = self.every[place_of(kind)];
         every != 0 && count % every == 0
     }
 
     /// Whether two ranges that meet at a page may be one.
-    pub(crate) fn may_merge_at(&self, page: u64) -> bool {
+    pub(crate) fn may_merge_at(&self, page: u64) -> bool
+        ensures { result ≡ may_merge_at self.now page }
+    {
         self.border == 0 || page % self.border != 0
     }
 }

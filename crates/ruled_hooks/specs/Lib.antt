@@ -1,0 +1,3 @@
+pub mod Rules
+pub mod Ruled
+pub mod Words
