@@ -9,7 +9,7 @@ use Rattle.chunk_table.specs.declared.table.ChunkTable.{ChunkTable}
 use Rattle.chunk_table.specs.declared.view.View.{View}
 use Rattle.chunk_table.specs.Rule.{blank}
 use Rattle.chunk_table.specs.Steps.{alone, first_of, first_part, later_part}
-use Rattle.chunk_table.specs.Tables.{owned, share_of, IsSeatOf}
+use Rattle.chunk_table.specs.Tables.{failed, owned, share_of, IsSeatOf}
 
 -- the shares of the arenas from a number on
 abbrev pub from : ℕ → ℕ → View
@@ -46,3 +46,9 @@ pub none_owned : (seats : List ChunkSeat) (arenas : ℕ) (numbers : List ℕ) �
 none_owned [] arenas numbers e = All-nil (λ seat. owned seat ≡ [])
 none_owned (s ∷ ss) arenas [] e = absurd (cc)
 none_owned (s ∷ ss) arenas (n ∷ ns) e = All-cons (λ seat. owned seat ≡ []) s ss (ap (λ l. (first_of l).owned) e) (none_owned ss arenas ns (ap (drop 1) e))
+
+-- and no claim of theirs failed
+pub none_failed : (seats : List ChunkSeat) (arenas : ℕ) (numbers : List ℕ) → map share_of seats ≡ map (blank arenas) numbers → All (λ seat. failed seat ≡ []) seats
+none_failed [] arenas numbers e = All-nil (λ seat. failed seat ≡ [])
+none_failed (s ∷ ss) arenas [] e = absurd (cc)
+none_failed (s ∷ ss) arenas (n ∷ ns) e = All-cons (λ seat. failed seat ≡ []) s ss (ap (λ l. (first_of l).taken) e) (none_failed ss arenas ns (ap (drop 1) e))

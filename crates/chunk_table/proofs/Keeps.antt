@@ -15,7 +15,7 @@ use Rattle.atomic_table.proofs.Lists.{at_set, set_else, at_snoc, exchanged}
 use Rattle.chunk_table.specs.declared.view.Share.{Share}
 use Rattle.chunk_table.specs.declared.view.View.{View}
 use Rattle.chunk_table.specs.Rule.{mark, owns, marked, blank, opening_view, Agrees, Rule}
-use Rattle.chunk_table.specs.Steps.{with_owned, with_freed, with_taken, first_of, alone, Shows, claimed, freed, looked, first_part, later_part, both_views, spent}
+use Rattle.chunk_table.specs.Steps.{with_owned, with_freed, with_looked, with_taken, first_of, alone, Shows, claimed, freed, looked, noticed, first_part, later_part, both_views, spent}
 
 -- an element that is there lies within the list, and is read there
 at_within : {A : Type 0} (l : List A) (i : ℕ) (a d : A) → get_elem? l i ≡ some a → (i < length l) × (get_or l i d ≡ a)
@@ -219,6 +219,18 @@ module _ {S : Type 0} (arenas : ℕ) where
             (All-cons (Agrees arenas (set s.words c 0)) (with_freed c sh) [] (agrees_without arenas s.words c lt sh agree) (All-nil (Agrees arenas (set s.words c 0))))
             (λ j u other there. all_else arenas s.words c 0 (mark sh) lt (λ t differs. ((λ e. differs (sym e ∙ found)), (λ e. omega arith))) u.shares (others_unmarked s r id sh here j u other there) (r.agrees j u there)),
         refl,
+      )
+
+  -- a look that is noted keeps the rule
+  pub notices : (slots id : ℕ) (me : Me S View) (given : Share) (c : ℕ) → me.0 ≡ alone given → Allows Kept slots id me c (λ n. n) (noticed (step slots c 0 0 none) me)
+  notices slots id me given c one s r long at small =
+      let sh : Share = first_of me.0.shares in let same : sh ≡ given = ap (λ (v : View). first_of v.shares) one in let here = at ∙ ap some (one ∙ ap alone (sym same)) in let agree = own_agrees s r id sh here in
+      let found : ℕ = get_or s.words c 0 in (
+        alone (with_looked c found sh),
+        keeps,
+        tt,
+        noted s r c id (alone sh) (alone (with_looked c found sh)) here (λ n. refl) (All-cons (Agrees arenas s.words) (with_looked c found sh) [] record { of = agree.of; owner = agree.owner } (All-nil (Agrees arenas s.words))) me.1,
+        (refl, shows s r c sh agree),
       )
 
   -- a look at a chunk keeps the rule

@@ -21,7 +21,7 @@ marked w v = count_by (λ s. mark s == w) v.shares
 
 -- the share of an arena that has claimed nothing
 abbrev pub blank : ℕ → ℕ → Share
-blank arenas n = record { number = n; arenas = arenas; owned = []; taken = [] }
+blank arenas n = record { number = n; arenas = arenas; owned = []; taken = []; looks = [] }
 
 -- the shares of all arenas, none of which has claimed anything
 abbrev pub blanks : ℕ → List Share

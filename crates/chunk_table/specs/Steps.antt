@@ -8,15 +8,19 @@ use Rattle.chunk_table.specs.Rule.{mark, owns, blank}
 
 -- the arena owns one more chunk
 abbrev pub with_owned : ℕ → Share → Share
-with_owned chunk s = record { number = s.number; arenas = s.arenas; owned = s.owned ++ chunk ∷ []; taken = s.taken }
+with_owned chunk s = record { number = s.number; arenas = s.arenas; owned = s.owned ++ chunk ∷ []; taken = s.taken; looks = s.looks }
 
 -- the arena no longer owns a chunk
 abbrev pub with_freed : ℕ → Share → Share
-with_freed chunk s = record { number = s.number; arenas = s.arenas; owned = filter (λ c. not (c == chunk)) s.owned; taken = s.taken }
+with_freed chunk s = record { number = s.number; arenas = s.arenas; owned = filter (λ c. not (c == chunk)) s.owned; taken = s.taken; looks = s.looks }
 
 -- the arena failed to claim a chunk, which another has
 abbrev pub with_taken : ℕ → ℕ → Share → Share
-with_taken chunk owner s = record { number = s.number; arenas = s.arenas; owned = s.owned; taken = s.taken ++ record { chunk = chunk; owner = owner } ∷ [] }
+with_taken chunk owner s = record { number = s.number; arenas = s.arenas; owned = s.owned; taken = s.taken ++ record { chunk = chunk; owner = owner } ∷ []; looks = s.looks }
+
+-- the arena looked at a chunk
+abbrev pub with_looked : ℕ → ℕ → Share → Share
+with_looked chunk word s = record { number = s.number; arenas = s.arenas; owned = s.owned; taken = s.taken; looks = s.looks ++ record { chunk = chunk; word = word } ∷ [] }
 
 -- the share after a claim that found a word
 abbrev pub after_claim : ℕ → ℕ → Share → Share
@@ -43,6 +47,10 @@ module _ {S : Type 0} where
   -- the chunk is free
   abbrev pub freed : Step S → Me S View → ℕ → Me S View → Type 0
   freed st m found n = n ≡ (alone (with_freed st.word (first_of m.0.shares)), m.1)
+
+  -- the word that was read is noted
+  abbrev pub noticed : Step S → Me S View → ℕ → Me S View → Type 0
+  noticed st m found n = (n ≡ (alone (with_looked st.word found (first_of m.0.shares)), m.1)) × Shows st.word found (first_of m.0.shares)
 
   -- nothing changed, each share agrees with the word, and no chunk is owned by two of them
   abbrev pub looked : Step S → Me S View → ℕ → Me S View → Type 0

@@ -1,6 +1,7 @@
 -- What a clause says of a table of chunks, of its seats, and of the book that they leave.
 use Rattle.std.specs.Prelude.{ℕ, ◌≡◌, ◌≢◌, ◌+◌, ◌<◌, ◌≤◌, List}
 use Rattle.chunk_table.specs.declared.view.Share.{Share}
+use Rattle.chunk_table.specs.declared.view.Taken.{Taken}
 use Rattle.chunk_table.specs.declared.table.ChunkTable.{ChunkTable}
 use Rattle.chunk_table.specs.declared.claims.Claim.{Claim}
 use Rattle.chunk_table.specs.declared.claims.Claim.TheVariants.{Claimed, Taken as IsTaken}
@@ -28,6 +29,10 @@ number seat = seat.number
 -- the chunks that a seat's arena owns, in the order in which it claimed them
 abbrev pub owned : ChunkSeat → List ℕ
 owned seat = (share_of seat).owned
+
+-- the claims of a seat's arena that failed, in their order
+abbrev pub failed : ChunkSeat → List Taken
+failed seat = (share_of seat).taken
 
 -- it is a seat of this table
 abbrev pub IsSeatOf : ChunkTable → ChunkSeat → Type 0

@@ -1,11 +1,11 @@
 //! What a seat does to the words.
-ghost use Rattle.std.specs.Prelude.{◌≡◌, ◌==◌, ◌+◌, ◌≤◌, false, true, []};
+ghost use Rattle.std.specs.Prelude.{◌≡◌, ◌==◌, ◌+◌, ◌≤◌, ℕ, false, true, []};
 ghost use Rattle.chunk_table.specs.Rule.{owns};
-ghost use Rattle.chunk_table.specs.Steps.{alone, with_freed};
+ghost use Rattle.chunk_table.specs.Steps.{alone, with_freed, with_looked};
 ghost use Rattle.chunk_table.specs.Tables.{arena_count, number, share_of, IsSeatOf, IsChunk, ClaimTells};
 ghost use Rattle.chunk_table.specs.Views.{IsOne, only_share};
 
-use crate::rule::{Claims, Frees, Looks, Place};
+use crate::rule::{Claims, Frees, Notices, Place};
 use crate::table::{ChunkSeat, ChunkTable};
 use crate::view::View;
 use atomic_table::Badge;
@@ -74,17 +74,22 @@ impl ChunkTable {
         seat.badge = place.into_badge();
     }
 
-    /// A chunk's word: 0 where the chunk is free, and else the number of the arena that owns it and one.
+    /// A chunk's word as it was at one moment of the call: 0 where the chunk is free, and else the number of the arena that owns it and
+    /// one. The seat notes what was read.
     pub fn owner(&self, seat: &mut ChunkSeat, chunk: u64) -> u64
         requires table { IsSeatOf self.now seat.old }
         requires chunk { IsChunk chunk }
         ensures table { IsSeatOf self.now seat.new }
-        ensures same { (number seat.new ≡ number seat.old) × (share_of seat.new ≡ share_of seat.old) }
+        ensures number { number seat.new ≡ number seat.old }
+        ensures word { share_of seat.new ≡ with_looked chunk result (share_of seat.old) }
         ensures named { result ≤ arena_count self.now }
         ensures own { owns chunk (share_of seat.old) ≡ (result == number seat.old + 1) }
     {
         let mut place = place_of(mem::replace(&mut seat.badge, Badge::blank()));
-        let found = self.table.shared.load::<Looks>(&mut place, chunk as usize);
+        let found = self
+            .table
+            .shared
+            .load::<Notices>(&mut place, chunk as usize);
         seat.badge = place.into_badge();
         found
     }
@@ -94,7 +99,8 @@ impl ChunkTable {
         requires table { IsSeatOf self.now seat.old }
         requires chunk { IsChunk chunk }
         ensures table { IsSeatOf self.now seat.new }
-        ensures same { (number seat.new ≡ number seat.old) × (share_of seat.new ≡ share_of seat.old) }
+        ensures number { number seat.new ≡ number seat.old }
+        ensures word { (word : ℕ) × (share_of seat.new ≡ with_looked chunk word (share_of seat.old)) }
         ensures own { result ≡ owns chunk (share_of seat.old) }
     {
         self.owner(seat, chunk) == u64::from(seat.number) + 1

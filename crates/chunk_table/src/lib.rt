@@ -12,4 +12,4 @@ mod view;
 pub use claims::Claim;
 pub use laws::words_name_owners;
 pub use table::{CHUNKS, ChunkBook, ChunkSeat, ChunkSeats, ChunkTable};
-pub use view::{Share, Taken};
+pub use view::{Look, Share, Taken};

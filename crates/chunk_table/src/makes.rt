@@ -2,7 +2,7 @@
 ghost use Rattle.std.specs.Prelude.{◌≡◌, ℕ, ◌<◌, ◌≤◌, [], length, map, slice_index, vec_capacity, IfOk};
 ghost use Rattle.std.specs.List.{All};
 ghost use Rattle.chunk_table.specs.Rule.{blanks};
-ghost use Rattle.chunk_table.specs.Tables.{arena_count, owned, share_of, IsSeatOf};
+ghost use Rattle.chunk_table.specs.Tables.{arena_count, failed, owned, share_of, IsSeatOf};
 
 use crate::rule::{Board, Parts, Place};
 use crate::table::{CHUNKS, ChunkSeat, ChunkSeats, ChunkTable};
@@ -47,6 +47,7 @@ impl ChunkTable {
         ensures table { IfOk result (λ r. All (IsSeatOf r.0) r.1.items) }
         ensures free { IfOk result (λ r. map share_of r.1.items ≡ blanks arenas) }
         ensures none { IfOk result (λ r. All (λ seat. owned seat ≡ []) r.1.items) }
+        ensures unfailed { IfOk result (λ r. All (λ seat. failed seat ≡ []) r.1.items) }
     {
         let words = zeros(alloc, CHUNKS as usize + 1)?;
         let mut items = Vec::new(alloc);

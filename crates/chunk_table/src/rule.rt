@@ -38,6 +38,15 @@ impl Play<(), View> for Frees {
     ghost then = { freed };
 }
 
+/// Reads who has a chunk, and notes it.
+pub struct Notices;
+
+impl Play<(), View> for Notices {
+    ghost use Rattle.chunk_table.specs.Steps.{noticed};
+
+    ghost then = { noticed };
+}
+
 /// Reads who has a chunk.
 pub struct Looks;
 

@@ -1,20 +1,24 @@
 -- The words of the proofs: definitions and lemmas of std, of the crates below and of this one, each under one name.
 pub use Rattle.std.specs.Arc.{arc_value}
-pub use Rattle.std.specs.List.{list_any, range_with_len}
+pub use Rattle.std.specs.List.{flat_map, list_any, range_with_len}
 pub use Rattle.std.specs.Option.{option_map}
 pub use Rattle.std.specs.declared.snapshot.Snapshot.{Snapshot}
 pub use Rattle.std.proofs.Common.{◌≡◌, ◌⊎◌, inl, inr, ℕ, ◌+◌, ◌*◌, ◌-◌, ◌/◌, ◌%◌, ◌<◌, ◌≤◌, ◌==◌, ◌&&◌, ◌||◌, Bool, true, false, not, cond, List, Option, None, Some, find, max, refl, sym, ◌∙◌, ap, subst, arith, nat_lt, All, suc, zero, ◌≢◌, ◌++◌, IsTrue, [], ◌∷◌, length, nat_le, Result, Ok, Err, IfOk}
+pub use Rattle.std.proofs.Common.{append-nil, map}
+pub use Rattle.std.proofs.lemmas.Grind.{flat_map-append}
 pub use Rattle.std.proofs.lemmas.Bool.{ltb-true}
 pub use Rattle.std.proofs.lemmas.Bool.Decides.{nat_tests}
-pub use Rattle.std.proofs.lemmas.List.{get_or-set_other, get_or-set_same, length-set}
+pub use Rattle.std.proofs.lemmas.List.{get_or-set_other, get_or-set_same, length-set, map-append}
 pub use Rattle.std.proofs.lemmas.List.Folds.{Any-from_list_any, list_any-from_Any}
 pub use Rattle.arena_core.specs.Arenas.{opens, Standing, entry_of, room_after, room_of, rooms_after}
 pub use Rattle.chunk_table.proofs.Keeps.{any_without}
 pub use Rattle.chunk_table.specs.Rule.{owns}
-pub use Rattle.chunk_table.specs.Steps.{with_freed}
-pub use Rattle.chunk_table.specs.Tables.{share_of}
+pub use Rattle.chunk_table.specs.Steps.{with_freed, with_looked}
+pub use Rattle.chunk_table.specs.Tables.{failed, share_of}
 pub use Rattle.chunk_table.specs.declared.table.ChunkTable.{ChunkTable}
+pub use Rattle.chunk_table.specs.declared.table.ChunkSeat.{ChunkSeat}
 pub use Rattle.chunk_table.specs.declared.view.Share.{Share}
+pub use Rattle.chunk_table.specs.declared.view.Taken.{Taken}
 pub use Rattle.space_model.proofs.Lists.{any_counts, counted_any, ones}
 pub use Rattle.space_model.proofs.Pieces.{both_true}
 pub use Rattle.space_model.proofs.Steps.{op_keeps}
@@ -49,7 +53,7 @@ pub use Rattle.turn_lock.specs.declared.machine.Machine.{Ghosts}
 pub use Rattle.turn_lock.specs.declared.view.Turn.{Turn}
 pub use mathlib.Core.Logic.{dite}
 pub use native.Mathlib.Decide.{ℕ_discrete}
-pub use Rattle.heap_shared.specs.Claims.{Claimed, IsElsewhere, IsBefore, Released, found_in, granted_span, is_met_by, is_met, refused_span, touched, wanted}
+pub use Rattle.heap_shared.specs.Claims.{Claimed, Fails, HasFound, IsElsewhere, IsSettled, OwnsMet, found_list, founds, IsBefore, Released, found_in, granted_span, is_met_by, is_met, refused_span, touched, wanted}
 pub use Rattle.call_plan.specs.Laws.{with_found}
 pub use Rattle.heap_shared.specs.Shared.{Facts, IsSure, Logs, MayStand, after_deed, after_entry, facts_of, owned_by, Owned}
 pub use Rattle.heap_shared.specs.Turns.{Turned, space_of_history}

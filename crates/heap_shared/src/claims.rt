@@ -1,7 +1,7 @@
 //! The chunks that an arena claims and releases.
 ghost use Rattle.std.specs.Prelude.{◌≡◌, ℕ, Option, Some};
 ghost use Rattle.std.specs.Arc.{arc_value};
-ghost use Rattle.chunk_table.specs.Tables.{share_of, IsSeatOf};
+ghost use Rattle.chunk_table.specs.Tables.{failed, share_of, IsSeatOf};
 ghost use Rattle.call_plan.specs.Laws.{with_found};
 ghost use Rattle.heap_shared.specs.Claims.{Claimed, IsElsewhere, OwnsMet, Released, found_in, granted_span, high_chunk, low_chunk, refused_span, touched, wanted};
 ghost use Rattle.heap_shared.specs.Touches.{touched_with};
@@ -103,6 +103,7 @@ impl Claims {
     fn release_span(&mut self, arena: &Arena, span: Span)
         ensures table { arc_value self.new.table ≡ arc_value self.old.table }
         ensures released { Released (Some span) arena.now.space (share_of self.old.seat) (share_of self.new.seat) }
+        ensures failed { failed self.new.seat ≡ failed self.old.seat }
     {
         let (low, high) = chunks_of(span);
         for chunk in low..high {
@@ -141,6 +142,7 @@ impl Claims {
     pub fn release(&mut self, arena: &Arena, span: Option<Span>)
         ensures table { arc_value self.new.table ≡ arc_value self.old.table }
         ensures released { Released span arena.now.space (share_of self.old.seat) (share_of self.new.seat) }
+        ensures failed { failed self.new.seat ≡ failed self.old.seat }
     {
         if let Some(span) = span {
             self.release_span(arena, span);

@@ -1,9 +1,10 @@
 //! The machine of an arena: an operation of a client is a step.
 ghost use Rattle.std.specs.Prelude.{◌≡◌, [], length, OnErr, IfOk, IsOk, false};
 ghost use Rattle.std.specs.Arc.{arc_value};
-ghost use Rattle.chunk_table.specs.Tables.{owned, IsSeatOf};
+ghost use Rattle.chunk_table.specs.Tables.{failed, owned, IsSeatOf};
 ghost use Rattle.arena_core.specs.Arenas.{opens};
-ghost use Rattle.heap_shared.specs.Claims.{OwnsMet};
+ghost use Rattle.heap_shared.specs.Claims.{HasFound, OwnsMet};
+ghost use Rattle.recorded_arena.specs.Records.{IsReplayed};
 ghost use Rattle.heap_shared.specs.Shared.{Logs, MayStand, after_entry, owned_by, opening_facts};
 
 use crate::claims::Claims;
@@ -28,13 +29,13 @@ pub struct SharedArena {
 impl Model for SharedArena {
     ghost use Rattle.std.specs.Arc.{arc_value};
     ghost use Rattle.heap_shared.specs.Shared.{Facts, facts_of};
-    ghost use Rattle.heap_shared.specs.Claims.{OwnsMet};
+    ghost use Rattle.heap_shared.specs.Claims.{IsSettled};
 
     ghost Value = { Facts };
 
     ghost view = { λ s. facts_of s.recorded (arc_value s.claims.table) };
 
-    ghost invariant = { λ s. OwnsMet s.claims.seat s.recorded.space };
+    ghost invariant = { λ s. IsSettled s.claims.seat s.recorded.space s.recorded.kept };
 }
 
 impl SharedArena {
@@ -47,6 +48,7 @@ impl SharedArena {
     ) -> Result<SharedArena, NoMemory>
         requires seat { IsSeatOf (arc_value table) seat }
         requires none { owned seat ≡ [] }
+        requires unfailed { failed seat ≡ [] }
         ensures { IfOk result (λ s. s ≡ opening_facts index (arc_value table)) }
     {
         Ok(SharedArena {
@@ -55,12 +57,15 @@ impl SharedArena {
         })
     }
 
-    /// The journal and the seat, once no turn is to come. It owns just the chunks that extents of the arena meet.
+    /// The journal and the seat, once no turn is to come. It owns just the chunks that extents of the arena meet, and its claims that
+    /// failed are those by which entries of the journal found chunks in other arenas.
     pub fn into_parts(self) -> (Journal, ChunkSeat)
         ensures index { result.0.index ≡ self.arena.index }
         ensures kept { result.0.kept ≡ self.arena.kept }
         ensures table { IsSeatOf self.table result.1 }
         ensures owned { OwnsMet result.1 self.arena.space }
+        ensures found { HasFound result.1 result.0.kept }
+        ensures replayed { IsReplayed self.arena.index self.arena.kept self.arena.space }
     {
         let SharedArena { recorded, claims } = self;
         let Claims { seat, .. } = claims;

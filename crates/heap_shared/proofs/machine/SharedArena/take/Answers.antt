@@ -1,5 +1,6 @@
-use Rattle.heap_shared.proofs.Words.{◌≡◌, ◌∙◌, Some, None, sym, ap, subst, arc_value, entry_of, owns, share_of, Released, is_met, touched, wanted, Facts, Logs, MayStand, after_entry, facts_of, owned_by, Reply, mine, Space, space_after, both_true, replayed_sound, opens, true, false, is_met_by, refl, IsTrue, stands, with_found, Deed, IsElsewhere, Op, Record, record_after}
+use Rattle.heap_shared.proofs.Words.{◌≡◌, ◌∙◌, Some, None, sym, ap, subst, arc_value, entry_of, owns, share_of, Released, is_met, touched, wanted, Facts, Logs, MayStand, after_entry, facts_of, owned_by, Reply, mine, Space, space_after, both_true, replayed_sound, opens, true, false, is_met_by, refl, IsTrue, stands, with_found, Deed, IsElsewhere, Op, Record, KeptFacts, founds, record_after}
 use Rattle.heap_shared.proofs.Chunks.{owns_after}
+use Rattle.heap_shared.proofs.Sweeps.{found_more}
 use Rattle.heap_shared.proofs.Rooms.{after_is, found_kept, found_may, found_opens, found_room, logs_entry, opens_claims}
 use Rattle.heap_shared.proofs.machine.SharedArena.take.Goals as goal
 
@@ -62,5 +63,9 @@ invariant_of-self-2 c =
     let one = subst (λ p. Released p c.arena-arena.result.now.space mid new) (c.with.ensures ∙ c.touch-touch.ensures reply) c.release.ensures.released in
     let two = subst (λ (t : Space). Released (touched made reply) t mid new) (c.arena-arena.ensures.space ∙ left) one in
     let three = subst (λ (r : Reply). Released (touched made r) (space_after s.arena.space (entry_of client made)) mid new) c.in_ok-turn.ensures.reply two in
-    λ chunk. subst (λ (t : Space). owns chunk new ≡ is_met chunk t) (sym left)
-    (owns_after client s.arena.space made sound (both_true _ _ stand).1 chunk old mid new c.self.invariant c.settle-op.ensures.claimed three)
+    let entered : KeptFacts = record { entry = entry_of client made; asked = doing.asked } in record {
+      owned = λ chunk. subst (λ (t : Space). owns chunk new ≡ is_met chunk t) (sym left)
+          (owns_after client s.arena.space made sound (both_true _ _ stand).1 chunk old mid new c.self.invariant.owned c.settle-op.ensures.claimed three);
+      found = found_more old.taken mid.taken new.taken s.arena.kept entered c.self.invariant.found c.settle-op.ensures.claimed.fails c.release.ensures.failed
+          ∙ ap founds (sym (ap (λ (r : Record). r.kept) c.in_ok-turn.ensures.after));
+    }
