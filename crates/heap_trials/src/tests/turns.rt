@@ -1,7 +1,7 @@
 //! Clients take turns in arenas over one table of chunks, from one thread.
 ghost use Rattle.std.specs.Prelude.{◌≡◌, ◌<◌, [], true, IfOk};
 ghost use Rattle.std.specs.Arc.{arc_value};
-ghost use Rattle.chunk_table.specs.Tables.{arena_count, owned, IsSeatOf};
+ghost use Rattle.chunk_table.specs.Tables.{arena_count, failed, owned, IsSeatOf};
 ghost use Rattle.turn_lock.specs.Locks.{first, held, number, own_known, seat_count, spare, IsPassOf};
 ghost use Rattle.heap_shared.specs.Shared.{after_entry, owned_by};
 
@@ -26,8 +26,8 @@ type Table = Arc<ChunkTable, Global>;
 /// The table of two arenas, and their seats.
 fn two_seats<R: Abort>(rt: &R, alloc: Global) -> Result<(Table, ChunkSeat, ChunkSeat), NoMemory>
     ensures arenas { IfOk result (λ r. arena_count (arc_value r.0) ≡ 2) }
-    ensures first { IfOk result (λ r. IsSeatOf (arc_value r.0) r.1 × (owned r.1 ≡ [])) }
-    ensures second { IfOk result (λ r. IsSeatOf (arc_value r.0) r.2 × (owned r.2 ≡ [])) }
+    ensures first { IfOk result (λ r. IsSeatOf (arc_value r.0) r.1 × (owned r.1 ≡ []) × (failed r.1 ≡ [])) }
+    ensures second { IfOk result (λ r. IsSeatOf (arc_value r.0) r.2 × (owned r.2 ≡ []) × (failed r.2 ≡ [])) }
 {
     let (table, mut seats) = ChunkTable::new(alloc, 2)?;
     let table = Arc::new(alloc, table)?;
@@ -46,6 +46,7 @@ fn locked(
 ) -> Result<(Lock, Client), NoMemory>
     requires seat { IsSeatOf (arc_value table.now) seat }
     requires none { owned seat ≡ [] }
+    requires unfailed { failed seat ≡ [] }
     requires clients { 0 < clients }
     ensures table { IfOk result (λ r. (first r.0).table ≡ arc_value table.now) }
     ensures pass { IfOk result (λ r. IsPassOf r.0 r.1 × (number r.1 ≡ 0)) }

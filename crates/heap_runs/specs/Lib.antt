@@ -1,0 +1,10 @@
+pub mod Histories
+pub mod Ways
+pub mod Heaps
+pub mod Deals
+pub mod Columns
+pub mod Closes
+pub mod Walks
+pub mod Legal
+pub mod Cached
+pub mod Settings
