@@ -38,7 +38,7 @@ fault_cause fault.Range = Some Range
 -- why a line that is read isn't carried out at a moment: its own moment is below that, or it is about phases
 abbrev pub line_cause : ℕ → Line → Option Cause
 line_cause now (line.At moment) = if nat_lt moment now then Some Clock else None
-line_cause now line.Phase = Some Phase
+line_cause now (line.Phase rounds) = Some Phase
 line_cause now line.Join = Some Phase
 line_cause now line = None
 

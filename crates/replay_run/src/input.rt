@@ -247,7 +247,7 @@ fn cause_of_line(now: u64, line: &Line) -> Option<Cause>
 {
     match line {
         Line::At(moment) if *moment < now => Some(Cause::Clock),
-        Line::Phase | Line::Join => Some(Cause::Phase),
+        Line::Phase { .. } | Line::Join => Some(Cause::Phase),
         _ => None,
     }
 }

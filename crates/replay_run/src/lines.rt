@@ -143,7 +143,7 @@ pub fn carry_line<K: Sink, H: ExtentHooks>(
             Ok(())
         }
         Line::Blank => Ok(()),
-        Line::Phase => Ok(()),
+        Line::Phase { .. } => Ok(()),
         Line::Join => Ok(()),
     }
 }

@@ -76,10 +76,16 @@ calls_line calls good failed = codes "calls " ++ decimal calls ++ codes " ok " +
 unfoldable pub counts_text : Counts → List ℕ
 counts_text counts = used_text counts ++ codes " " ++ unused_text counts ++ codes " " ++ mapped_text counts
 
--- a live arena at the end of journals that were checked: how many entries it has, and its counts
+-- a live arena at the end of its journal: how many entries that has, and the arena's counts
 unfoldable pub entries_line : ℕ → ℕ → Counts → List ℕ
 entries_line index entries counts =
     codes "arena " ++ decimal index ++ codes " entries " ++ decimal entries ++ codes " " ++ counts_text counts ++ newline
+
+-- so many clients that were workers or had settings, in so many phases with so many calls, of which so many weren't answered Ok
+unfoldable pub threads_line : ℕ → ℕ → ℕ → ℕ → List ℕ
+threads_line clients phases calls failed =
+    codes "threads " ++ decimal clients ++ codes " phases " ++ decimal phases ++
+    codes " calls " ++ decimal calls ++ codes " failed " ++ decimal failed ++ newline
 
 -- journals of so many entries are accepted
 unfoldable pub accepted_line : ℕ → List ℕ

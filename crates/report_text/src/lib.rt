@@ -18,5 +18,6 @@ pub use controls::CtlAnswer;
 pub use heads::Head;
 pub use lines::{
     accepted_line, ask_line, bad_line, call_line, calls_line, counts_line, ctl_line, entries_line,
-    idle_line, met_line, no_arena_line, no_entry_line, no_step_line, turn_line, usage_line,
+    idle_line, met_line, no_arena_line, no_entry_line, no_step_line, threads_line, turn_line,
+    usage_line,
 };

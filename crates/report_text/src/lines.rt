@@ -4,7 +4,7 @@ ghost use Rattle.std.specs.Prelude.{◌≡◌, ◌≤◌, ◌++◌, [], codes, l
 ghost use Rattle.call_plan.specs.declared.needs.Given.{Given};
 ghost use Rattle.report_text.specs.Heads.{head_name};
 ghost use Rattle.report_text.specs.Answers.{ctl_ended, ended_text, given_text};
-ghost use Rattle.report_text.specs.Lines.{newline, call_line, ctl_line, turn_line, ask_line, idle_line, counts_line, no_arena_line, bad_line, calls_line, entries_line, accepted_line, no_entry_line, no_step_line, met_line, usage_line};
+ghost use Rattle.report_text.specs.Lines.{newline, call_line, ctl_line, turn_line, ask_line, idle_line, counts_line, no_arena_line, bad_line, calls_line, entries_line, threads_line, accepted_line, no_entry_line, no_step_line, met_line, usage_line};
 
 use crate::answers::{AnswerText, SaidText, kind, size};
 use crate::counts::{CountsText, MappedText, UnusedText, UsedText};
@@ -200,7 +200,7 @@ pub fn calls_line(out: &mut Vec<u8>, calls: u64, good: u64, failed: u64) -> Resu
     writeln!(out, "calls {calls} ok {good} failed {failed}").map_err(no_memory)
 }
 
-/// The line of a live arena at the end of journals that were checked: `arena I entries E` and its counts by name, in bytes.
+/// The line of a live arena at the end of its journal: `arena I entries E` and its counts by name, in bytes.
 #[tactic(auto, unfolding(crate::specs::Lines::entries_line))]
 pub fn entries_line(
     out: &mut Vec<u8>,
@@ -212,6 +212,25 @@ pub fn entries_line(
 {
     let counts = CountsText(counts);
     writeln!(out, "arena {index} entries {entries} {counts}").map_err(no_memory)
+}
+
+/// The last line of a run of threads: `threads T phases P calls N failed F`, with how many clients were named, how many phases
+/// there were, how many calls of clients in these, and how many of them weren't answered Ok.
+#[tactic(auto, unfolding(crate::specs::Lines::threads_line))]
+pub fn threads_line(
+    out: &mut Vec<u8>,
+    clients: u32,
+    phases: u64,
+    calls: u64,
+    failed: u64,
+) -> Result<(), NoMemory>
+    ensures { OnOk result (out.new.items ≡ out.old.items ++ threads_line clients phases calls failed) }
+{
+    writeln!(
+        out,
+        "threads {clients} phases {phases} calls {calls} failed {failed}"
+    )
+    .map_err(no_memory)
 }
 
 /// The line on journals that are accepted, with how many entries they have: `accepted N`.

@@ -2,4 +2,7 @@
 
 mod journals;
 mod lines;
+mod phases;
+mod reading;
 mod reports;
+mod workers;

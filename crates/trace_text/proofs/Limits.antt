@@ -1,5 +1,5 @@
 -- The limits that a line keeps to.
-use Rattle.trace_text.proofs.Words.{◌≡◌, ℕ, ℤ, pos, negsuc, ◌^◌, ◌<◌, Bool, true, false, ltb, leb, eqb, cond, List, [], ◌∷◌, Result, Ok, Err, refl, arith, IfOk, codes, bytes_eq, ltb-true, ltb-false, Rest, is_purgeable, is_decay_time, LineFault, Words, Range, Verb, Free, Publish, Take, Purge, Decay, Reset, Destroy, Create, Bind, Cache, Flush, CtlWrite, Line, ◌>>=◌, both, Gives, decimal_of, name_of, control_of, value_of, client_of, box_of, index_of, time_of, nothing_of, in_one, pointer_of, malloc_of, memalign_of, decay_time_of, switch_of, control_call_of, client_verb_of, arena_verb_of, unused_verb_of, verb_of, refusals_of, plan_line_of, client_line_of, other_line_of, begins_client, said_of, IsVerbWithinLimits, IsWithinLimits}
+use Rattle.trace_text.proofs.Words.{◌≡◌, ℕ, ℤ, pos, negsuc, ◌^◌, ◌<◌, ◌≤◌, ◌||◌, ◌∙◌, lit≤, Bool, true, false, ltb, leb, eqb, cond, List, [], ◌∷◌, Result, Ok, Err, refl, arith, IfOk, codes, bytes_eq, ltb-true, ltb-false, Rest, is_purgeable, is_decay_time, LineFault, Words, Range, Verb, Free, Publish, Take, Purge, Decay, Reset, Destroy, Create, Bind, Cache, Flush, CtlWrite, Line, ◌>>=◌, both, Gives, decimal_of, name_of, control_of, value_of, client_of, box_of, index_of, time_of, rounds_of, nothing_of, in_one, pointer_of, malloc_of, memalign_of, decay_time_of, switch_of, control_call_of, client_verb_of, arena_verb_of, unused_verb_of, verb_of, refusals_of, plan_line_of, phase_line_of, client_line_of, other_line_of, begins_client, said_of, IsVerbWithinLimits, IsWithinLimits}
 use Rattle.trace_text.specs.declared.lines.Line.TheVariants.{Call, Start, Step, End, At, Counts, Phase, Join}
 
 abbrev IsAny : {A : Type 0} → A → Type 0
@@ -201,13 +201,30 @@ counts_within : (words : List (List ℕ)) → IfOk (in_one index_of words >>= λ
 counts_within words =
     kept_on (IsBelow (2 ^ 32)) IsWithinLimits (in_one index_of words) _ (kept_one (IsBelow (2 ^ 32)) index_of words index_below) (λ i h. h)
 
+rounds_within : (word : List ℕ) → IfOk (rounds_of word) (λ k. k ≤ 1000)
+unfolding rounds_of
+rounds_within word =
+    kept_on IsAny (λ k. k ≤ 1000) (decimal_of word) _ (kept_any (decimal_of word)) (λ k _. kept_if (λ k. k ≤ 1000) (eqb k 0 || ltb 1000 k) _ _ (λ _. tt) (λ e. few k (eqb k 0) (ltb 1000 k) refl e))
+  where
+    few : (k : ℕ) (a b : Bool) → ltb 1000 k ≡ b → (a || b) ≡ false → k ≤ 1000
+    few k true b same e = cc
+    few k false b same e = let le = ltb-false 1000 k (same ∙ e) in omega arith
+
+phase_within : (words : List (List ℕ)) → IfOk (phase_line_of words) IsWithinLimits
+unfolding phase_line_of
+phase_within [] = lit≤ tt
+phase_within (word ∷ []) = tt
+phase_within (word ∷ rounds ∷ []) =
+    kept_either IsWithinLimits (bytes_eq word (codes "background")) _ (Err Words) (kept_on (λ k. k ≤ 1000) IsWithinLimits (rounds_of rounds) _ (rounds_within rounds) (λ k h. h)) tt
+phase_within (word ∷ rounds ∷ next ∷ words) = tt
+
 setting_within : (word : List ℕ) (words : List (List ℕ)) → IfOk (other_line_of word words) IsWithinLimits
 unfolding other_line_of
 setting_within word words =
     kept_either IsWithinLimits (bytes_eq word (codes "at")) _ _ (free_line At (λ n. tt) (in_one decimal_of words))
     (kept_either IsWithinLimits (bytes_eq word (codes "refuse")) _ _ (plan_within words)
     (kept_either IsWithinLimits (bytes_eq word (codes "counts")) _ _ (counts_within words)
-    (kept_either IsWithinLimits (bytes_eq word (codes "phase")) _ _ (free_line (λ u. Phase) (λ u. tt) (nothing_of words))
+    (kept_either IsWithinLimits (bytes_eq word (codes "phase")) _ _ (phase_within words)
     (kept_either IsWithinLimits (bytes_eq word (codes "join")) _ (Err Words) (free_line (λ u. Join) (λ u. tt) (nothing_of words)) tt))))
 
 said_within : (words : List (List ℕ)) → IfOk (said_of words) IsWithinLimits

@@ -1,5 +1,5 @@
 -- How the shapes of a line are told apart.
-use Rattle.trace_text.proofs.Words.{◌≡◌, ℕ, ◌<◌, Bool, true, false, eqb, ltb, cond, List, [], ◌∷◌, length, take, drop, Result, Ok, Err, refl, arith, IfErr, cond_both, and-true, pointwise, LineFault, Words, ◌>>=◌, both, first_cause, NumberFault, NotDigits, NotNumeral, caused, decimal_in_word, decimal_of, hexadecimal_of, name_of, client_of, nothing_of, pointer_of, malloc_of, memalign_of, decay_time_of, control_call_of, client_verb_of, arena_verb_of, unused_verb_of, verb_of, plan_line_of, client_line_of, other_line_of, said_of}
+use Rattle.trace_text.proofs.Words.{◌≡◌, ℕ, ◌<◌, Bool, true, false, eqb, ltb, cond, List, [], ◌∷◌, length, take, drop, Result, Ok, Err, refl, arith, IfErr, cond_both, and-true, pointwise, LineFault, Words, ◌>>=◌, both, first_cause, NumberFault, NotDigits, NotNumeral, caused, decimal_in_word, decimal_of, hexadecimal_of, name_of, client_of, nothing_of, pointer_of, malloc_of, memalign_of, decay_time_of, control_call_of, client_verb_of, arena_verb_of, unused_verb_of, verb_of, plan_line_of, phase_line_of, client_line_of, other_line_of, said_of}
 use Rattle.trace_text.specs.declared.lines.Ptr.TheVariants.{Name, At}
 
 -- a word that doesn't begin with `@` is a name
@@ -70,7 +70,7 @@ client_line_long client a b c d e f words =
     )
 
 setting_long : (word a b c d e f : List ℕ) (words : List (List ℕ)) → other_line_of word (a ∷ b ∷ c ∷ d ∷ e ∷ f ∷ words) ≡ Err Words
-unfolding nothing_of plan_line_of other_line_of
+unfolding nothing_of plan_line_of phase_line_of other_line_of
 setting_long word a b c d e f words = simp cond_same
 
 -- no shape has so many words

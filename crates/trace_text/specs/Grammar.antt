@@ -1,5 +1,5 @@
 -- The grammar of a line. What a line says is a value, or the first cause for which it isn't read.
-use Rattle.std.specs.Prelude.{◌≡◌, ◌==◌, ℕ, ◌^◌, ◌<◌, Bool, true, false, ◌&&◌, List, [], ◌∷◌, nat_le, Result, Ok, Err, if◌then◌else◌, codes}
+use Rattle.std.specs.Prelude.{◌≡◌, ◌==◌, ℕ, ◌^◌, ◌<◌, ◌≤◌, Bool, true, false, ◌&&◌, List, [], ◌∷◌, nat_le, Result, Ok, Err, if◌then◌else◌, codes}
 use Rattle.std.specs.List.{slice_split, list_all}
 use Rattle.std.specs.Str.{bytes_eq}
 use Rattle.hook_api.specs.declared.plans.Kind.{Kind}
@@ -14,7 +14,7 @@ use Rattle.trace_text.specs.declared.lines.Line.{Line}
 use Rattle.trace_text.specs.declared.lines.Line.TheVariants.{Blank, Call, Start, Step, End, At, Refuse, Counts, Phase, Join}
 use Rattle.trace_text.specs.Causes.{◌>>=◌, both}
 use Rattle.trace_text.specs.Numbers.{decimal_of}
-use Rattle.trace_text.specs.Ranges.{client_of, box_of, index_of, nth_of}
+use Rattle.trace_text.specs.Ranges.{client_of, box_of, index_of, nth_of, rounds_of}
 use Rattle.trace_text.specs.Verbs.{nothing_of, in_one, verb_of}
 
 -- a byte that a line may have
@@ -67,13 +67,24 @@ client_line_of client (word ∷ words) =
     else (if bytes_eq word (codes "call") then (both (client_of client) (verb_of words) >>= λ p. Ok (Start p.0 p.1))
     else (both (client_of client) (verb_of (word ∷ words)) >>= λ p. Ok (Call p.0 p.1))))
 
+-- a phase with a worker in the background: `background`, and how many rounds it makes
+abbrev pub background_of : List ℕ → List ℕ → Result Line LineFault
+background_of word rounds =
+    if bytes_eq word (codes "background") then (rounds_of rounds >>= λ k. Ok (Phase k)) else Err Words
+
+-- the arguments of a phase: none, or `background K`
+unfoldable pub phase_line_of : List (List ℕ) → Result Line LineFault
+phase_line_of [] = Ok (Phase 0)
+phase_line_of (word ∷ rounds ∷ []) = background_of word rounds
+phase_line_of _ = Err Words
+
 -- a line that is no client's, by its first word
 unfoldable pub other_line_of : List ℕ → List (List ℕ) → Result Line LineFault
 other_line_of word words =
     if bytes_eq word (codes "at") then (in_one decimal_of words >>= λ n. Ok (At n))
     else (if bytes_eq word (codes "refuse") then plan_line_of words
     else (if bytes_eq word (codes "counts") then (in_one index_of words >>= λ i. Ok (Counts i))
-    else (if bytes_eq word (codes "phase") then (nothing_of words >>= λ _. Ok Phase)
+    else (if bytes_eq word (codes "phase") then phase_line_of words
     else (if bytes_eq word (codes "join") then (nothing_of words >>= λ _. Ok Join)
     else Err Words))))
 
@@ -113,7 +124,8 @@ IsVerbWithinLimits Flush = Unit {0}
 IsVerbWithinLimits (CtlPlain name) = Unit {0}
 IsVerbWithinLimits (CtlWrite name value) = Unit {0}
 
--- what every line that is read keeps to: its client and its box are below 32, its arena below 2 ^ 32, and so is its call
+-- what every line that is read keeps to: its client and its box are below 32, its arena below 2 ^ 32, its rounds at most
+-- 1000, and so is its call
 abbrev pub IsWithinLimits : Line → Type 0
 IsWithinLimits Blank = Unit {0}
 IsWithinLimits (Call client verb) = (client < 32) × IsVerbWithinLimits verb
@@ -123,5 +135,5 @@ IsWithinLimits (End client) = client < 32
 IsWithinLimits (At moment) = Unit {0}
 IsWithinLimits (Refuse box_no kind nth) = box_no < 32
 IsWithinLimits (Counts arena) = arena < 2 ^ 32
-IsWithinLimits Phase = Unit {0}
+IsWithinLimits (Phase rounds) = rounds ≤ 1000
 IsWithinLimits Join = Unit {0}

@@ -1,5 +1,5 @@
 -- The numbers of a line that have a range of their own, each by its place in the line.
-use Rattle.std.specs.Prelude.{◌==◌, ℕ, ℤ, pos, negsuc, ◌^◌, List, [], ◌∷◌, nat_lt, nat_le, Result, Ok, Err, if◌then◌else◌, codes}
+use Rattle.std.specs.Prelude.{◌==◌, ℕ, ℤ, pos, negsuc, ◌^◌, ◌||◌, List, [], ◌∷◌, nat_lt, nat_le, Result, Ok, Err, if◌then◌else◌, codes}
 use Rattle.std.specs.Str.{bytes_eq}
 use Rattle.trace_text.specs.declared.faults.LineFault.{LineFault}
 use Rattle.trace_text.specs.declared.faults.LineFault.TheVariants.{Words, Threads, Range}
@@ -30,3 +30,7 @@ unfoldable pub nth_of : List ℕ → Result ℕ LineFault
 nth_of word =
     if bytes_eq word (codes "all") then Ok 0
     else (decimal_of word >>= λ n. if n == 0 then Err Range else Ok n)
+
+-- how many rounds the background worker of a phase makes: from 1 to 1000
+unfoldable pub rounds_of : List ℕ → Result ℕ LineFault
+rounds_of word = decimal_of word >>= λ k. if k == 0 || nat_lt 1000 k then Err Range else Ok k

@@ -70,8 +70,9 @@ pub enum Line {
     Refuse { box_no: u32, kind: Kind, nth: u64 },
     /// `counts I`: prints the counts of arena I.
     Counts(u32),
-    /// `phase`: a phase of the clients begins.
-    Phase,
+    /// `phase` or `phase background K`: a phase of the clients begins, beside which the background worker makes so many
+    /// rounds, from 1 to 1000, or none, which is 0.
+    Phase { rounds: u32 },
     /// `join`: it ends.
     Join,
 }

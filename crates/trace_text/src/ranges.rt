@@ -1,7 +1,7 @@
 //! The numbers of a line that have a range of their own, each by its place in the line.
 
 ghost use Rattle.std.specs.Prelude.{◌≡◌};
-ghost use Rattle.trace_text.specs.Ranges.{client_of, box_of, index_of, time_of, nth_of};
+ghost use Rattle.trace_text.specs.Ranges.{client_of, box_of, index_of, time_of, nth_of, rounds_of};
 
 use crate::LineFault;
 use crate::parts::{decimal, is};
@@ -14,6 +14,9 @@ const LAST_BOX: u64 = 31;
 const LAST_INDEX: u64 = 4_294_967_295;
 /// The longest time, in milliseconds.
 const LONGEST_TIME: u64 = 1_000_000_000;
+
+/// The most rounds of a background worker.
+const MOST_ROUNDS: u64 = 1000;
 
 /// A client: `t` and its number, from 0 to 31.
 #[tactic(auto, unfolding(crate::specs::Ranges::client_of))]
@@ -82,4 +85,16 @@ pub fn nth(word: &[u8]) -> Result<u64, LineFault>
         return Err(LineFault::Range);
     }
     Ok(nth)
+}
+
+/// How many rounds the background worker of a phase makes, from 1 to 1000.
+#[tactic(auto, unfolding(crate::specs::Ranges::rounds_of))]
+pub fn rounds(word: &[u8]) -> Result<u32, LineFault>
+    ensures { result ≡ rounds_of word.now }
+{
+    let rounds = decimal(word)?;
+    if rounds == 0 || rounds > MOST_ROUNDS {
+        return Err(LineFault::Range);
+    }
+    Ok(rounds as u32)
 }

@@ -5,10 +5,10 @@ ghost use Rattle.std.specs.List.{list_all};
 ghost use Rattle.trace_text.specs.Causes.{Gives};
 ghost use Rattle.trace_text.specs.Numbers.{decimal_of};
 ghost use Rattle.trace_text.specs.Verbs.{in_one};
-ghost use Rattle.trace_text.specs.Grammar.{is_printable, words_of, is_blank, holding_kind_of, kind_of_word, refusals_of, plan_line_of, client_line_of, other_line_of, begins_client, said_of, line_of, IsWithinLimits};
+ghost use Rattle.trace_text.specs.Grammar.{is_printable, words_of, is_blank, holding_kind_of, kind_of_word, refusals_of, plan_line_of, background_of, phase_line_of, client_line_of, other_line_of, begins_client, said_of, line_of, IsWithinLimits};
 
 use crate::parts::{both_parts, decimal, is};
-use crate::ranges::{box_number, client, nth};
+use crate::ranges::{box_number, client, nth, rounds};
 use crate::verbs::{nothing, only_index, verb};
 use crate::{Line, LineFault};
 use arrayvec::ArrayVec;
@@ -117,14 +117,36 @@ fn setting(word: &[u8], words: &[&[u8]]) -> Result<Line, LineFault>
     } else if is(word, "counts") {
         Ok(Line::Counts(only_index(words)?))
     } else if is(word, "phase") {
-        nothing(words)?;
-        Ok(Line::Phase)
+        phase(words)
     } else if is(word, "join") {
         nothing(words)?;
         Ok(Line::Join)
     } else {
         Err(LineFault::Words)
     }
+}
+
+/// The arguments of a phase: none, or `background K`.
+#[tactic(auto, unfolding(crate::specs::Grammar::phase_line_of))]
+fn phase(words: &[&[u8]]) -> Result<Line, LineFault>
+    ensures { result ≡ phase_line_of (map (λ w. w.now) words.now) }
+{
+    match words {
+        [] => Ok(Line::Phase { rounds: 0 }),
+        [word, count] => background(word, count),
+        _ => Err(LineFault::Words),
+    }
+}
+
+fn background(word: &[u8], count: &[u8]) -> Result<Line, LineFault>
+    ensures { result ≡ background_of word.now count.now }
+{
+    if !is(word, "background") {
+        return Err(LineFault::Words);
+    }
+    Ok(Line::Phase {
+        rounds: rounds(count)?,
+    })
 }
 
 fn only_decimal(words: &[&[u8]]) -> Result<u64, LineFault>

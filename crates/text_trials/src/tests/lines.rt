@@ -15,7 +15,7 @@ fn says(rt: &impl Abort, alloc: Global, line: &[u8], text: &str) -> Result<(), F
 
 #[test]
 fn lines_say_what_is_written(rt: HostRuntime) -> Result<(), Fail> {
-    let table: [(&[u8], &str); 27] = [
+    let table: [(&[u8], &str); 28] = [
         (
             b"t31 malloc z_9 18446744073709551615",
             "Ok(Call { client: 31, verb: Malloc { name: \"z_9\", size: 18446744073709551615 } })",
@@ -76,7 +76,8 @@ fn lines_say_what_is_written(rt: HostRuntime) -> Result<(), Fail> {
         (b"t5 call flush", "Ok(Start { client: 5, verb: Flush })"),
         (b"t5 step", "Ok(Step(5))"),
         (b"t31 end", "Ok(End(31))"),
-        (b"phase", "Ok(Phase)"),
+        (b"phase", "Ok(Phase { rounds: 0 })"),
+        (b"phase background 1000", "Ok(Phase { rounds: 1000 })"),
         (b"join", "Ok(Join)"),
         (b"#  t0 free  a ", "Ok(Blank)"),
     ];
@@ -102,7 +103,7 @@ fn bad_bytes_clients_and_ranges_are_told(rt: HostRuntime) -> Result<(), Fail> {
     let threads = b"t32 malloc a 1\nt4294967296 flush\nt32 purge 4294967296";
     all_have(&rt, alloc, threads, LineFault::Threads)?;
     let range =
-        b"t0 purge 4294967296\nt0 create 32\nt0 dirty 0 1000000001\nrefuse 0 alloc 0\nrefuse 32 alloc 1";
+        b"t0 purge 4294967296\nt0 create 32\nt0 dirty 0 1000000001\nrefuse 0 alloc 0\nrefuse 32 alloc 1\nphase background 0\nphase background 1001";
     all_have(&rt, alloc, range, LineFault::Range)
 }
 
@@ -110,13 +111,13 @@ fn bad_bytes_clients_and_ranges_are_told(rt: HostRuntime) -> Result<(), Fail> {
 fn bad_shapes_and_numbers_are_told(rt: HostRuntime) -> Result<(), Fail> {
     let alloc = rt.alloc();
     let shapes =
-        b" \n #\nt0  free a\nt0 free a \nt0\nt0 call step\nt0 ctl a = 1 2\nrefuse 0 destroy 1\nphase background 01";
+        b" \n #\nt0  free a\nt0 free a \nt0\nt0 call step\nt0 ctl a = 1 2\nrefuse 0 destroy 1\nphase background\nphase 1\nphase background 1 1";
     all_have(&rt, alloc, shapes, LineFault::Words)?;
     let words =
         b"t0 malloc A 1\nt0 malloc a +1\nt0 free @A\nt0 free @00000000000000001\nt0 dirty 0 -2\nt0 realloc a 1";
     all_have(&rt, alloc, words, LineFault::Words)?;
     let number =
-        b"t0 malloc a 01\nt0 malloc a 18446744073709551616\nt0 free @00\nt00 flush\nt32 malloc a 01";
+        b"t0 malloc a 01\nt0 malloc a 18446744073709551616\nt0 free @00\nt00 flush\nt32 malloc a 01\nphase background 01";
     all_have(&rt, alloc, number, LineFault::Number)
 }
 

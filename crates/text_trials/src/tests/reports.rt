@@ -2,8 +2,8 @@
 
 use call_plan::{Answered, Given};
 use report_text::{
-    Cause, CtlAnswer, Head, ask_line, bad_line, call_line, counts_line, ctl_line, idle_line,
-    no_arena_line, turn_line, usage_line,
+    Cause, CtlAnswer, Head, ask_line, bad_line, call_line, counts_line, ctl_line, entries_line,
+    idle_line, no_arena_line, threads_line, turn_line, usage_line,
 };
 use space_model::{Answer, Ask, Counts, Span, Why};
 use std::alloc::Global;
@@ -260,8 +260,10 @@ fn prints_counts(rt: HostRuntime) -> Result<(), Fail> {
     let mut lines = Vec::new(rt.alloc());
     counts_line(&mut lines, 31, &counts)?;
     no_arena_line(&mut lines, 5)?;
+    entries_line(&mut lines, 31, 10, &counts)?;
+    threads_line(&mut lines, 4, 2, 10, 1)?;
     let want =
-        "arena 31 allocated 112 active 28672 dirty 20480 muzzy 4096 retained 2048000 flight 8192 mapped 61440\nno arena 5\n";
+        "arena 31 allocated 112 active 28672 dirty 20480 muzzy 4096 retained 2048000 flight 8192 mapped 61440\nno arena 5\narena 31 entries 10 allocated 112 active 28672 dirty 20480 muzzy 4096 retained 2048000 flight 8192 mapped 61440\nthreads 4 phases 2 calls 10 failed 1\n";
     assert_eq!(rt; lines.as_slice(), want.as_bytes());
     Ok(())
 }

@@ -1,0 +1,3 @@
+pub mod Unreads
+pub mod Places
+pub mod Walking

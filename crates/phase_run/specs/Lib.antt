@@ -1,0 +1,5 @@
+pub mod Reading
+pub mod Names
+pub mod Requests
+pub mod Tally
+pub mod Walks

@@ -1,0 +1,29 @@
+-- The names of a trace, each with the region that its last malloc or memalign got, in the order in which they were first bound.
+use Rattle.std.specs.Prelude.{ℕ, List, [], ◌∷◌, Option, None, Some}
+use Rattle.std.specs.Map.{lookup}
+use Rattle.std.specs.Option.{unwrap_or}
+use Rattle.std.specs.Str.{bytes_eq}
+use Rattle.indexmap.specs.IndexMap.{insert_entry}
+use Rattle.phase_run.specs.declared.names.Place.{Place}
+
+-- where a name stands for that was never bound: address 0 of arena 0
+abbrev pub nowhere : Place
+nowhere = record { addr = 0; arena = 0 }
+
+-- where the region of a name lies
+abbrev pub place_in : List (List ℕ × Place) → List ℕ → Place
+place_in names name = unwrap_or (lookup (bytes_eq name) names) nowhere
+
+-- the names with this one bound to a place: where it was bound before, and else at the end
+abbrev pub named : List (List ℕ × Place) → List ℕ → Place → List (List ℕ × Place)
+named names name place = insert_entry bytes_eq names name place
+
+-- the names with one bound, if there is one, to where its region lies among others
+abbrev pub learnt : List (List ℕ × Place) → List (List ℕ × Place) → Option (List ℕ) → List (List ℕ × Place)
+learnt others names None = names
+learnt others names (Some name) = named names name (place_in others name)
+
+-- the names with those bound that a worker bound in its phase
+abbrev pub merged : List (List ℕ × Place) → List (List ℕ × Place) → List (List ℕ × Place)
+merged names [] = names
+merged names ((name, place) ∷ own) = merged (named names name place) own
