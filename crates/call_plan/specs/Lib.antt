@@ -1,5 +1,4 @@
 pub mod Items
-pub mod Clients
 pub mod Stages
 pub mod Words
 pub mod Table

@@ -1,8 +1,7 @@
 //! Laws of calls, as contracts of functions that do nothing.
 #![tactic(auto, using(crate::proofs::Proved::laws))]
 
-ghost use Rattle.call_plan.specs.Clients.{BatchesEnd, BatchesRise};
-ghost use Rattle.call_plan.specs.Laws.{BatchesKnow, BeginsKnow, KnowledgeIsOwn, MovesKnow, RunsEndOnce, StepsKeep, WantsStand};
+ghost use Rattle.call_plan.specs.Laws.{BatchesKnow, BeginsKnow, KnowledgeIsOwn, RunsEndOnce, StepsKeep, WantsStand};
 ghost use Rattle.call_plan.specs.Rooms.{RoomsSuffice};
 ghost use Rattle.call_plan.specs.Bounds.{AsksAreFew, FreesAreFew, MallocsAreShort, PurgesAreFew};
 ghost use Rattle.call_plan.specs.Refusals.{RefusalsStand};
@@ -18,12 +17,6 @@ pub fn begins_know()
 /// Where regions went back and more are to go, the next ones are such that the client holds in the next arena.
 pub fn batches_know()
     ensures { BatchesKnow }
-{}
-
-/// Where another region is to take the place of one that can't be resized where it is, the call knows what it has to, whether a
-/// cached region does or one is got.
-pub fn moves_know()
-    ensures { MovesKnow }
 {}
 
 /// Every turn that a call wants may stand in the space of its arena, whatever others did meanwhile, and whatever chunk of
@@ -93,14 +86,4 @@ pub fn memaligns_are_aligned()
 /// the turns without memory that follow it.
 pub fn rooms_suffice()
     ensures { RoomsSuffice }
-{}
-
-/// The addresses of a batch rise, and each is that of one of the regions in its arena.
-pub fn batches_rise()
-    ensures { BatchesRise }
-{}
-
-/// Once a batch went back, fewer regions are to go.
-pub fn batches_end()
-    ensures { BatchesEnd }
 {}

@@ -77,8 +77,6 @@ pub enum Action {
     Destroy,
     /// An arena is created, with box 0.
     Create,
-    /// The client has one more explicit cache.
-    NewCache,
 }
 
 /// What a plain line of a name comes to.
@@ -102,8 +100,6 @@ pub enum OnPlain {
     Acts(Action),
     /// Nothing: a value is wanted.
     Wanting,
-    /// Nothing: it may only be written.
-    Never,
 }
 
 /// What a write to a name comes to, and so what is a value of it.
@@ -133,10 +129,6 @@ pub enum OnWrite {
     Create,
     /// The arena that has an extent at the address is looked up.
     Lookup,
-    /// All regions go back that the explicit cache has.
-    FlushCache,
-    /// They go back, and then the explicit cache goes.
-    EndCache,
 }
 
 /// A row of the table: the pattern of its names, what a plain line of them comes to, and what a write comes to.
@@ -146,7 +138,7 @@ pub enum OnWrite {
 pub type Row = (&'static str, OnPlain, OnWrite);
 
 /// How many rows there are.
-pub const ROW_COUNT: usize = 43;
+pub const ROW_COUNT: usize = 40;
 
 /// The rows.
 const ROWS: [Row; ROW_COUNT] = [
@@ -170,13 +162,6 @@ const ROWS: [Row; ROW_COUNT] = [
         OnPlain::Acts(Action::Flush),
         OnWrite::Never,
     ),
-    (
-        "tcache.create",
-        OnPlain::Acts(Action::NewCache),
-        OnWrite::Never,
-    ),
-    ("tcache.flush", OnPlain::Never, OnWrite::FlushCache),
-    ("tcache.destroy", OnPlain::Never, OnWrite::EndCache),
     (
         "arena.<arena>.initialized",
         OnPlain::ReadsArena(ArenaReading::IsLive),
@@ -340,7 +325,7 @@ pub(crate) fn table() -> [Row; ROW_COUNT]
 
 /// The row of a name that was read.
 pub fn row_of(name: CtlName) -> Row
-    requires { name.row < 43 }
+    requires { name.row < 40 }
     ensures { shown result ≡ row_at name.row }
 {
     table()[name.row as usize]

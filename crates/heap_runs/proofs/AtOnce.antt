@@ -4,7 +4,7 @@ use Rattle.std.specs.Prelude.{nat_lt, ◌^◌}
 use Rattle.size_classes.specs.Classes.{class_for}
 use Rattle.thread_cache.specs.declared.Held.{Held}
 use Rattle.thread_cache.specs.Caches.{cached_in}
-use Rattle.call_plan.specs.Clients.{before_last, hit, hitting, holding, is_cacheable}
+use Rattle.thread_cache.specs.Desks.{before_last, hit, hitting, holding, is_cacheable}
 use Rattle.call_plan.specs.declared.needs.Answered.TheVariants.{Ok}
 use Rattle.call_plan.specs.declared.needs.Given.TheVariants.{Done as Finished, Region}
 use Rattle.call_plan.specs.declared.needs.Request.TheVariants.{Free, Malloc}

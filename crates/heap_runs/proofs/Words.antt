@@ -72,7 +72,7 @@ pub use Rattle.space_model.specs.declared.entries.Op.{Op}
 pub use Rattle.space_model.specs.declared.entries.Op.TheVariants.{GrowDone, OfferDone}
 pub use Rattle.space_model.specs.declared.entries.Reply.{Reply}
 pub use Rattle.space_model.specs.declared.spaces.Space.{Space}
-pub use Rattle.call_plan.specs.Clients.{DeskFacts}
+pub use Rattle.thread_cache.specs.Desks.{DeskFacts}
 pub use Rattle.turn_lock.specs.History.{entries, entries_by, replay_turns, turn_of, IsLegal}
 pub use Rattle.turn_lock.specs.Locks.{first, number, seen, spare, IsPassOf, Turned}
 pub use Rattle.turn_lock.specs.declared.lock.Pass.{Pass}

@@ -14,7 +14,7 @@ use Rattle.deeds.specs.declared.deeds.Told.{Told}
 use Rattle.heap_shared.specs.Shared.{Facts, Owned, opening_facts}
 use Rattle.heap_shared.specs.declared.machine.ArenaTurns.{ArenaTurns}
 use Rattle.hook_api.specs.declared.seat.AskSeat.{AskSeat}
-use Rattle.call_plan.specs.Clients.{DeskFacts}
+use Rattle.thread_cache.specs.Desks.{DeskFacts}
 use Rattle.heap_runs.specs.Ways.{AreWays, known}
 use Rattle.heap_runs.specs.declared.heaps.Ctx.{Ctx}
 use Rattle.heap_runs.specs.declared.heaps.SharedHeap.{SharedHeap}

@@ -2,12 +2,12 @@
 ghost use Rattle.std.specs.Arc.{arc_value};
 ghost use Rattle.heap_runs.specs.Ways.{AreLocks};
 
-use call_plan::Desk;
 use chunk_table::ChunkTable;
 use heap_shared::ArenaTurns;
 use hook_api::AskSeat;
 use std::alloc::Global;
 use std::sync::Arc;
+use thread_cache::Desk;
 use turn_lock::{Pass, TurnLock};
 
 /// The box that was given to each arena, by its index, where it was created.

@@ -1,5 +1,4 @@
-//! What clients have, calls of clients on a heap, and turns of clients in an arena that they share.
+//! Calls of clients on a heap, and turns of clients in an arena that they share.
 
-mod desks;
 mod heaps;
 mod turns;

@@ -2,3 +2,4 @@ pub mod Words
 pub mod ByClass
 pub mod Flat
 pub mod Gone
+pub mod Going

@@ -1,7 +1,7 @@
 use Rattle.heap_runs.proofs.Words.{◌∙◌, ap, refl, sym, arith, nat_tests}
 use Rattle.std.specs.Prelude.{◌≡◌, ◌^◌, false, nat_lt}
 use Rattle.size_classes.specs.Classes.{class_for}
-use Rattle.call_plan.specs.Clients.{hit, hitting, holding}
+use Rattle.thread_cache.specs.Desks.{hit, hitting, holding}
 use Rattle.call_plan.specs.declared.needs.Answered.TheVariants.{Ok}
 use Rattle.call_plan.specs.declared.needs.Given.TheVariants.{Region}
 use Rattle.call_plan.specs.declared.needs.Request.TheVariants.{Malloc}
