@@ -23,7 +23,7 @@ int main(void) {
     free(fill(malloc(77001), 77001));                      /* malloc 77001; free */
     free(fill(calloc(7, 11001), 77007));                   /* malloc 77007; free */
     void *grown = fill(reallocarray(NULL, 7, 11002), 9);   /* malloc 77014 */
-    grown = fill(reallocarray(grown, 7, 11003), 77021);    /* malloc 77021; free */
+    grown = fill(reallocarray(grown, 7, 11003), 77021);    /* realloc 77021 */
     free(grown);                                           /* free */
     free(fill(aligned_alloc(64, 77056), 77056));           /* memalign 64 77056; free */
     free(fill(memalign(128, 77003), 77003));               /* memalign 128 77003; free */
@@ -34,7 +34,7 @@ int main(void) {
     free(fill(valloc(77005), 77005));                      /* memalign 4096 77005; free */
 #ifdef JEMALLOC
     void *x = fill(mallocx(77101, MALLOCX_ALIGN(512)), 77101); /* memalign 512 77101 */
-    x = fill(rallocx(x, 77102, 0), 77102);                 /* malloc 77102; free */
+    x = fill(rallocx(x, 77102, 0), 77102);                 /* realloc 77102 */
     dallocx(x, 0);                                         /* free */
     sdallocx(fill(mallocx(77103, 0), 77103), 77103, 0);    /* malloc 77103; free */
 #else

@@ -56,6 +56,7 @@ struct tally {
 struct region {
     uintptr_t address;
     uint32_t name;
+    int client; /* which took it */
 };
 
 static struct tally *tally;
@@ -342,6 +343,7 @@ static void *got(bool entered, void *address, size_t alignment, size_t size) {
                 write_free(true, region->name);
             region->address = (uintptr_t)address;
             region->name = next_name++;
+            region->client = client;
             write_malloc(region->name, alignment, size);
         }
         release();
@@ -359,11 +361,12 @@ static void *got_aligned(bool entered, void *address, size_t alignment, size_t s
 }
 
 /* Takes a region out of the table; the lock is held. False where it isn't there. */
-static bool forgets(void *address, uint32_t *name) {
+static bool forgets(void *address, uint32_t *name, int *taker) {
     struct region *region = place_of((uintptr_t)address);
     if (region->address == 0)
         return false;
     *name = region->name;
+    *taker = region->client;
     clear_place(region);
     return true;
 }
@@ -371,10 +374,11 @@ static bool forgets(void *address, uint32_t *name) {
 /* Before the free itself: another thread may get the address then. */
 static void gone(bool entered, void *address) {
     uint32_t name = 0;
+    int taker = 0;
     if (!entered || address == NULL || !acquire())
         return;
     if (begins()) {
-        bool known = forgets(address, &name);
+        bool known = forgets(address, &name, &taker);
         write_free(known, name);
     }
     release();
@@ -384,14 +388,15 @@ static void gone(bool entered, void *address) {
 struct parted {
     bool known;
     uint32_t name;
+    int client;
 };
 
 /* Takes the region out of the table before another thread may get its address. */
 static struct parted part(bool entered, void *address) {
-    struct parted parted = {false, 0};
+    struct parted parted = {false, 0, 0};
     if (!entered || !acquire())
         return parted;
-    parted.known = tally->lines + CALL_LINES <= LINES && forgets(address, &parted.name);
+    parted.known = tally->lines + CALL_LINES <= LINES && forgets(address, &parted.name, &parted.client);
     release();
     return parted;
 }
@@ -402,6 +407,7 @@ static void stays(bool entered, void *address, struct parted parted) {
         struct region *region = place_of((uintptr_t)address);
         region->address = (uintptr_t)address;
         region->name = parted.name;
+        region->client = parted.client;
         release();
     }
     leave(entered);
@@ -447,12 +453,32 @@ void cfree(void *address) { free(address); }
 void free_sized(void *address, size_t size) { (void)size; free(address); }
 void free_aligned_sized(void *address, size_t alignment, size_t size) { (void)alignment; (void)size; free(address); }
 
-/* A malloc and a free, in this order. */
+/* A region of this client that has another size, and maybe another address, keeps its name. */
+static void *resized(bool entered, void *address, struct parted parted, size_t size) {
+    if (acquire()) {
+        if (begins()) {
+            struct region *region = place_of((uintptr_t)address);
+            if (region->address != 0)
+                write_free(true, region->name);
+            region->address = (uintptr_t)address;
+            region->name = parted.name;
+            region->client = client;
+            end_line(put_number(put_text(put_number(begin_line(" realloc m"), parted.name), " "), size));
+        }
+        release();
+    }
+    leave(entered);
+    return address;
+}
+
+/* A realloc where this client took the region, and else a malloc and a free, in this order. */
 static void *moved(bool entered, void *old, void *address, struct parted parted, size_t size) {
     if (address == NULL && size > 0) {
         stays(entered, old, parted);
         return NULL;
     }
+    if (address != NULL && parted.known && parted.client == client)
+        return resized(entered, address, parted, size);
     got(entered, address, 0, size);
     has_parted(entered, parted);
     return address;
@@ -538,6 +564,8 @@ void *rallocx(void *old, size_t size, int flags) {
         stays(entered, old, parted);
         return NULL;
     }
+    if (alignment_of(flags) == 0)
+        return moved(entered, old, address, parted, size);
     got(entered, address, alignment_of(flags), size);
     has_parted(entered, parted);
     return address;

@@ -60,3 +60,8 @@ aligned_below size align most = grind (arith, nat_tests, class_for_exists)
 
 -- what tells where an aligned malloc begins
 pub ruleset alignments = (alignment_passes, failing_is_none, nat_tests)
+
+-- a chunk's pages are a power of two
+pub chunk_power : is_power_of_two 512 ≡ true
+unfolding ones
+chunk_power = refl

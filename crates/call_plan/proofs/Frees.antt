@@ -1,5 +1,8 @@
 -- A free makes few asks for what its own returns emptied.
-use Rattle.call_plan.proofs.Words.{◌≡◌, ℕ, ◌+◌, ◌-◌, ◌*◌, ◌≤◌, Bool, true, cond, List, [], ◌∷◌, Option, None, Some, sym, subst, arith, add-zero, count_by, nat_tests, sum_by-cons, lost, won, Request, Item, Replied, Told, Starved, Batches, TurnPoint, Giving, Finding, Offering, Owning, AskPoint, Merging, Easing, Returning, Decommitting, Forcing, Point, Turns, Asks, Tells, Next, Go, Over, Reply, Space, Sound, mine, AskFacts, DeskFacts, done_at, is_marked, op_at, starved, step, told, turn_replied, want, Moment, after, begin, begin_stage, settle, step_next, desk_fed, Knows, Keeps, Moves, left, stages, unheard, with_found, flying, is_free, is_told, is_purge, Stride, Strides, Follows, Walks, emptied_by, emptied_by_all, asks, purges, FreesAreFew}
+use Rattle.call_plan.proofs.Words.{◌≡◌, ℕ, ◌+◌, ◌-◌, ◌*◌, ◌≤◌, Bool, true, cond, List, [], ◌∷◌, Option, None, Some, sym, subst, arith, add-zero, count_by, nat_tests, sum_by-cons, lost, won, Request, Item, Replied, Told, Starved, Batches, TurnPoint, Giving, Finding, Offering, Owning, AskPoint, Merging, Easing, Returning, Decommitting, Forcing, Point, Turns, Asks, Tells, Next, Go, Over, Move, Reply, Space, Sound, mine, AskFacts, DeskFacts, done_at, is_marked, op_at, starved, step, told, turn_replied, want, Moment, after, begin, begin_stage, settle, step_next, desk_fed, Knows, Keeps, Moves, left, stages, unheard, with_found, flying, is_free, is_told, is_purge, Stride, Strides, Follows, Walks, emptied_by, emptied_by_all, asks, purges, FreesAreFew}
+use Rattle.call_plan.specs.Desks.{meant, ready}
+use Rattle.call_plan.proofs.Swaps.{meant_alike}
+use Rattle.std.proofs.Common.{◌∙◌}
 use Rattle.call_plan.proofs.Bounds.{one}
 use Rattle.call_plan.proofs.Rooms.{HasNext, flown, keeps_next, turn_flies}
 use Rattle.call_plan.proofs.Standing.{wants-stand}
@@ -28,6 +31,7 @@ Paid f made most (Go (Turns point)) = TurnPaid f made most point
 Paid f made most (Go (Asks point heard)) = AskPaid f (made + unheard heard) most point
 Paid f made most (Go (Tells span b)) = ⊥
 Paid f made most (Over index point) = ⊥
+Paid f made most (Move class) = ⊥
 Paid f made most next = made ≤ most
 
 paid_most : (f made most : ℕ) (next : Next) → Paid f made most next → made ≤ most
@@ -106,6 +110,6 @@ begin_paid f request desk is = grind (arith, nat_tests)
 pub frees-are_few : FreesAreFew
 frees-are_few c request desk strides is walks = omega (arith, walk_paid c 0 0 strides (begin request desk) walks (starts strides))
   where
-    starts : (xs : List Stride) → PaidFrom c 0 0 (begin_stage request desk).next xs
+    starts : (xs : List Stride) → PaidFrom c 0 0 (begin request desk).stage.next xs
     starts [] = omega arith
-    starts (x ∷ xs) = begin_paid (flying (mine c x.before)) request desk is
+    starts (x ∷ xs) = begin_paid (flying (mine c x.before)) (meant request desk) (ready request desk) ((meant_alike request desk).free ∙ is)

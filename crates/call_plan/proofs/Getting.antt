@@ -1,5 +1,5 @@
 -- What the turns of a call leave that gets an extent: what it knows where it goes on.
-use Rattle.call_plan.proofs.Words.{min, ◌≡◌, ◌≢◌, ℕ, ◌+◌, ◌-◌, ◌<◌, ◌≤◌, Bool, true, false, not, cond, List, [], ◌∷◌, ◌++◌, Option, None, Some, refl, sym, ◌∙◌, ap, subst, arith, filter, find, count_ones, is_power_of_two, nat_tests, cond_both, leb-true, eqb-true, ones_le_self, filter-append, pages_bounds, run_start, holds_run, exchanged, begins_at, is_flight, is_flight_at, put_down, taken_out, listed, rest_of, fit, Stepped, whole_at, after_cut, cut_at, kept_piece, other_piece, after_look, look_at, after_grow, grow_unless, why_not, new_part, after_commit, commit_at, put_down-nobody, both_true, fit_best, itself, Wish, Looking, Landing, Next, Alloc, Commit, Split, Answer, Placed, Done, Refuses, Reply, Noted, Cut, Whole, Bad, Grown, Space, Part, Span, Why, mine, same_span, end_of, land_at, AnswersTo, commit, grant, grow, trim, skip_to, turn_replied, IsWish, Idle, Alone, Gets, is_served, in_flight, Keeps}
+use Rattle.call_plan.proofs.Words.{min, ◌≡◌, ◌≢◌, ℕ, ◌+◌, ◌-◌, ◌<◌, ◌≤◌, Bool, true, false, not, cond, List, [], ◌∷◌, ◌++◌, Option, None, Some, refl, sym, ◌∙◌, ap, subst, arith, filter, find, count_ones, is_power_of_two, nat_tests, cond_both, leb-true, eqb-true, ones_le_self, filter-append, pages_bounds, run_start, holds_run, exchanged, begins_at, is_flight, is_flight_at, put_down, taken_out, listed, rest_of, fit, Stepped, whole_at, after_cut, cut_at, kept_piece, other_piece, after_look, look_at, after_grow, grow_unless, why_not, new_part, after_commit, commit_at, put_down-nobody, both_true, fit_best, itself, Wish, Looking, Landing, Next, Alloc, Commit, Split, Answer, Placed, Done, Refuses, Reply, Noted, Cut, Whole, Bad, Grown, Space, Part, Span, Why, mine, same_span, end_of, land_at, AnswersTo, commit, got, grant, grow, trim, skip_to, turn_replied, IsWish, Idle, Alone, Gets, is_served, in_flight, Keeps}
 use Rattle.space_model.specs.Stepped.{is_live}
 use Rattle.call_plan.specs.Words.{Refuse as Refused}
 use Rattle.call_plan.proofs.Lists.{passes_alone}
@@ -71,21 +71,25 @@ replaced_idle c s gone pieces e =
 abbrev pub Onto : ℕ → (Reply → Next) → ℕ → ℕ → Stepped → Type 0
 Onto c f stage bound u = Keeps c u.after stage bound (f u.reply)
 
--- what is so of each space in which the client is as much a customer as before
+-- the client is as much a customer as before, and holds the same regions
+abbrev pub Same : ℕ → Space → Space → Type 0
+Same c s t = (is_served (mine c t) ≡ is_served (mine c s)) × ((mine c t).regions ≡ (mine c s).regions)
+
+-- what is so of each such space
 abbrev pub AnyAfter : ℕ → Space → (Space → Type 0) → Type 0
-AnyAfter c s P = (t : Space) → is_served (mine c t) ≡ is_served (mine c s) → P t
+AnyAfter c s P = (t : Space) → Same c s t → P t
 
 -- an extent whose hook refused is put down
-whole_onto : (c : ℕ) (s : Space) (f : Reply → Next) (bound : ℕ) (span : Span) (b : Bool) → Alone (mine c s) span b →
-    AnyAfter c s (λ t. Idle (mine c t) → Keeps c t 0 bound (f Whole)) → Onto c f 0 bound (whole_at s (find (is_flight_at c span) s.parts))
-whole_onto c s f bound span b alone on =
+pub whole_onto : (c : ℕ) (s : Space) (f : Reply → Next) (stage bound : ℕ) (span : Span) (b : Bool) → Alone (mine c s) span b →
+    AnyAfter c s (λ t. Idle (mine c t) → Keeps c t stage bound (f Whole)) → Onto c f stage bound (whole_at s (find (is_flight_at c span) s.parts))
+whole_onto c s f stage bound span b alone on =
     let p : Part = alone.part in
     let t : Space = (whole_at s (Some p)).after in
     let idle : Idle (mine c t) = record {
       flights = replaced_alone c s p (put_down p ∷ []) alone.flights ∙ ap (λ (v : Bool). cond v (put_down p ∷ []) []) (put_down-nobody c (rest_of p.state));
-      offers = alone.offers;
+      calm = alone.calm;
     } in
-    subst (λ o. Onto c f 0 bound (whole_at s o)) (sym (alone_found c s span b alone)) (on t refl idle)
+    subst (λ o. Onto c f stage bound (whole_at s o)) (sym (alone_found c s span b alone)) (on t (refl, refl) idle)
 
 -- the span that stays in flight after a cut
 abbrev pub kept_span : Bool → ℕ → Span → Span
@@ -97,10 +101,10 @@ piece_is : (keep_low : Bool) (left : ℕ) (p : Part) → ((kept_piece keep_low l
     × ((kept_piece keep_low left p).committed ≡ p.committed) × ((put_down (other_piece keep_low left p)).state ≡ listed (rest_of p.state))
 piece_is keep_low left p = grind arith
 
-cut_done : (c : ℕ) (s : Space) (f : Reply → Next) (bound : ℕ) (keep_low : Bool) (span : Span) (left : ℕ) (b : Bool) → (alone : Alone (mine c s) span b) →
-    AnyAfter c s (λ t. Alone (mine c t) (kept_span keep_low left span) b → Keeps c t 0 bound (f (Cut (kept_span keep_low left span)))) →
-    Onto c f 0 bound (cut_at s keep_low left (Some alone.part))
-cut_done c s f bound keep_low span left b alone on =
+cut_done : (c : ℕ) (s : Space) (f : Reply → Next) (stage bound : ℕ) (keep_low : Bool) (span : Span) (left : ℕ) (b : Bool) → (alone : Alone (mine c s) span b) →
+    AnyAfter c s (λ t. Alone (mine c t) (kept_span keep_low left span) b → Keeps c t stage bound (f (Cut (kept_span keep_low left span)))) →
+    Onto c f stage bound (cut_at s keep_low left (Some alone.part))
+cut_done c s f stage bound keep_low span left b alone on =
     let p : Part = alone.part in
     let kept : Part = kept_piece keep_low left p in
     let is = piece_is keep_low left p in
@@ -113,25 +117,25 @@ cut_done c s f bound keep_low span left b alone on =
       flights = replaced_alone c s p (put_down (other_piece keep_low left p) ∷ kept ∷ []) alone.flights ∙ rw (down, own) refl;
       spans = spans;
       committed = is.2 ∙ alone.committed;
-      offers = alone.offers;
+      calm = alone.calm;
     } in
-    subst (λ k. Keeps c t 0 bound (f (Cut k))) (sym spans) (on t refl still)
+    subst (λ k. Keeps c t stage bound (f (Cut k))) (sym spans) (on t (refl, refl) still)
 
 -- the answer to a split
-pub cut_onto : (c : ℕ) (s : Space) (f : Reply → Next) (bound : ℕ) (keep_low : Bool) (span : Span) (left : ℕ) (b : Bool) (answer : Answer) →
+pub cut_onto : (c : ℕ) (s : Space) (f : Reply → Next) (stage bound : ℕ) (keep_low : Bool) (span : Span) (left : ℕ) (b : Bool) (answer : Answer) →
     Alone (mine c s) span b → AnswersTo (Split span left) answer →
-    AnyAfter c s (λ t. Alone (mine c t) (kept_span keep_low left span) b → Keeps c t 0 bound (f (Cut (kept_span keep_low left span)))) →
-    AnyAfter c s (λ t. Idle (mine c t) → Keeps c t 0 bound (f Whole)) → Onto c f 0 bound (after_cut s c keep_low (Split span left) answer)
-cut_onto c s f bound keep_low span left b Done alone kind on_cut on_whole =
-    subst (λ o. Onto c f 0 bound (cut_at s keep_low left o)) (sym (alone_found c s span b alone)) (cut_done c s f bound keep_low span left b alone on_cut)
-cut_onto c s f bound keep_low span left b Refuses alone kind on_cut on_whole = whole_onto c s f bound span b alone on_whole
-cut_onto c s f bound keep_low span left b (Placed is_committed zeroed first) alone kind on_cut on_whole = absurd (kind first is_committed zeroed refl)
+    AnyAfter c s (λ t. Alone (mine c t) (kept_span keep_low left span) b → Keeps c t stage bound (f (Cut (kept_span keep_low left span)))) →
+    AnyAfter c s (λ t. Idle (mine c t) → Keeps c t stage bound (f Whole)) → Onto c f stage bound (after_cut s c keep_low (Split span left) answer)
+cut_onto c s f stage bound keep_low span left b Done alone kind on_cut on_whole =
+    subst (λ o. Onto c f stage bound (cut_at s keep_low left o)) (sym (alone_found c s span b alone)) (cut_done c s f stage bound keep_low span left b alone on_cut)
+cut_onto c s f stage bound keep_low span left b Refuses alone kind on_cut on_whole = whole_onto c s f stage bound span b alone on_whole
+cut_onto c s f stage bound keep_low span left b (Placed is_committed zeroed first) alone kind on_cut on_whole = absurd (kind first is_committed zeroed refl)
 
 -- the answer to a commit
-pub commit_onto : (c : ℕ) (s : Space) (f : Reply → Next) (bound : ℕ) (span : Span) (b : Bool) (answer : Answer) → Alone (mine c s) span b → AnswersTo (Commit span) answer →
-    AnyAfter c s (λ t. Alone (mine c t) span true → Keeps c t 0 bound (f Noted)) →
-    AnyAfter c s (λ t. Idle (mine c t) → Keeps c t 0 bound (f Whole)) → Onto c f 0 bound (after_commit s c (Commit span) answer)
-commit_onto c s f bound span b Done alone kind on_noted on_whole =
+pub commit_onto : (c : ℕ) (s : Space) (f : Reply → Next) (stage bound : ℕ) (span : Span) (b : Bool) (answer : Answer) → Alone (mine c s) span b → AnswersTo (Commit span) answer →
+    AnyAfter c s (λ t. Alone (mine c t) span true → Keeps c t stage bound (f Noted)) →
+    AnyAfter c s (λ t. Idle (mine c t) → Keeps c t stage bound (f Whole)) → Onto c f stage bound (after_commit s c (Commit span) answer)
+commit_onto c s f stage bound span b Done alone kind on_noted on_whole =
     let p : Part = alone.part in
     let own = passes_alone (λ q. is_flight c q.state) s.parts p alone.flights in
     let t : Space = (commit_at s (Some p)).after in
@@ -141,19 +145,19 @@ commit_onto c s f bound span b Done alone kind on_noted on_whole =
       flights = replaced_alone c s p (piece ∷ []) alone.flights ∙ ap (λ (v : Bool). cond v (piece ∷ []) []) own;
       spans = alone.spans;
       committed = refl;
-      offers = alone.offers;
+      calm = alone.calm;
     } in
-    subst (λ o. Onto c f 0 bound (commit_at s o)) (sym (alone_found c s span b alone)) (on_noted t refl still)
-commit_onto c s f bound span b Refuses alone kind on_noted on_whole = whole_onto c s f bound span b alone on_whole
-commit_onto c s f bound span b (Placed is_committed zeroed first) alone kind on_noted on_whole = absurd (kind first is_committed zeroed refl)
+    subst (λ o. Onto c f stage bound (commit_at s o)) (sym (alone_found c s span b alone)) (on_noted t (refl, refl) still)
+commit_onto c s f stage bound span b Refuses alone kind on_noted on_whole = whole_onto c s f stage bound span b alone on_whole
+commit_onto c s f stage bound span b (Placed is_committed zeroed first) alone kind on_noted on_whole = absurd (kind first is_committed zeroed refl)
 
 -- the answer to an alloc
-grown_onto : (c : ℕ) (s : Space) (f : Reply → Next) (bound : ℕ) (span : Span) (b : Bool) (o : Option Why) → Idle (mine c s) →
-    AnyAfter c s (λ t. Idle (mine c t) → (why : Why) → Keeps c t 0 bound (f (Bad why))) →
-    AnyAfter c s (λ t. Alone (mine c t) span b → Keeps c t 0 bound (f (Grown span b))) → Onto c f 0 bound (grow_unless s c span b o)
-grown_onto c s f bound span b (Some why) idle on_bad on_grown = on_bad s refl idle why
-grown_onto c s f bound span b None idle on_bad on_grown =
-    on_grown (grow_unless s c span b None).after refl
+grown_onto : (c : ℕ) (s : Space) (f : Reply → Next) (stage bound : ℕ) (span : Span) (b : Bool) (o : Option Why) → Idle (mine c s) →
+    AnyAfter c s (λ t. Idle (mine c t) → (why : Why) → Keeps c t stage bound (f (Bad why))) →
+    AnyAfter c s (λ t. Alone (mine c t) span b → Keeps c t stage bound (f (Grown span b))) → Onto c f stage bound (grow_unless s c span b o)
+grown_onto c s f stage bound span b (Some why) idle on_bad on_grown = on_bad s (refl, refl) idle why
+grown_onto c s f stage bound span b None idle on_bad on_grown =
+    on_grown (grow_unless s c span b None).after (refl, refl)
     (record {
       part = new_part c span b;
       flights = filter-append (λ q. is_flight c q.state) s.parts (new_part c span b ∷ [])
@@ -161,19 +165,19 @@ grown_onto c s f bound span b None idle on_bad on_grown =
           ∙ ap (λ (v : Bool). cond v (new_part c span b ∷ []) []) (itself c);
       spans = refl;
       committed = refl;
-      offers = idle.offers;
+      calm = idle.calm;
     })
 
-pub alloc_onto : (c : ℕ) (s : Space) (f : Reply → Next) (bound : ℕ) (found : Option ℕ) (pages align : ℕ) (answer : Answer) → Idle (mine c s) →
-    answer ≢ Done → AnyAfter c s (λ t. Idle (mine c t) → Keeps c t 0 bound (f Refused)) →
-    AnyAfter c s (λ t. Idle (mine c t) → (why : Why) → Keeps c t 0 bound (f (Bad why))) →
-    AnyAfter c s (λ t. (span : Span) (b : Bool) → span.pages ≡ pages → Alone (mine c t) span b → Keeps c t 0 bound (f (Grown span b))) →
-    Onto c f 0 bound (after_grow s c found (Alloc false None pages align) answer)
-alloc_onto c s f bound found pages align Refuses idle kind on_refused on_bad on_grown = on_refused s refl idle
-alloc_onto c s f bound found pages align (Placed b zeroed first) idle kind on_refused on_bad on_grown =
+pub alloc_onto : (c : ℕ) (s : Space) (f : Reply → Next) (stage bound : ℕ) (found place : Option ℕ) (pages align : ℕ) (answer : Answer) → Idle (mine c s) →
+    answer ≢ Done → AnyAfter c s (λ t. Idle (mine c t) → Keeps c t stage bound (f Refused)) →
+    AnyAfter c s (λ t. Idle (mine c t) → (why : Why) → Keeps c t stage bound (f (Bad why))) →
+    AnyAfter c s (λ t. (span : Span) (b : Bool) → span.pages ≡ pages → Alone (mine c t) span b → Keeps c t stage bound (f (Grown span b))) →
+    Onto c f stage bound (after_grow s c found (Alloc false place pages align) answer)
+alloc_onto c s f stage bound found place pages align Refuses idle kind on_refused on_bad on_grown = on_refused s (refl, refl) idle
+alloc_onto c s f stage bound found place pages align (Placed b zeroed first) idle kind on_refused on_bad on_grown =
     let span : Span = record { first = first; pages = pages } in
-    grown_onto c s f bound span b (why_not found align s.parts span) idle on_bad (λ t e alone. on_grown t e span b refl alone)
-alloc_onto c s f bound found pages align Done idle kind on_refused on_bad on_grown = absurd (kind refl)
+    grown_onto c s f stage bound span b (why_not found align s.parts span) idle on_bad (λ t e alone. on_grown t e span b refl alone)
+alloc_onto c s f stage bound found place pages align Done idle kind on_refused on_bad on_grown = absurd (kind refl)
 
 -- ---- the look
 
@@ -196,7 +200,7 @@ found_goes c s wish (Some p) e gets idle =
       flights = replaced_idle c s (begins_at p.span.first) (taken ∷ []) idle.flights ∙ ap (λ (v : Bool). cond v (taken ∷ []) []) (itself c);
       spans = refl;
       committed = refl;
-      offers = idle.offers;
+      calm = idle.calm;
     } in
     let above = run_above wish.align p.span (align_some wish.align gets.is.align) in
     let within : run_start wish.align p.span + wish.pages ≤ end_of p.span = leb-true _ _ (both_true _ (holds_run wish.pages wish.align p.span) (fit_best wish.pages wish.align s.parts p e).2).1 in
@@ -209,10 +213,14 @@ look_onto c s wish gets idle =
 
 -- ---- the landing
 
+-- where a region was got nothing is in flight
+pub got_goes : (c : ℕ) (t : Space) (stage bound : ℕ) (wish : Wish) (addr : ℕ) → Idle (mine c t) → Keeps c t stage bound (got wish addr)
+got_goes c t stage bound wish addr idle = grind arith
+
 pub land_onto : (c : ℕ) (s : Space) (wish : Wish) (span : Span) → Alone (mine c s) span true →
     Onto c (turn_replied (Landing wish span)) 0 1 (land_at s c wish.class wish.count (find (is_flight_at c span) s.parts))
 land_onto c s wish span alone =
     let p : Part = alone.part in
     let t : Space = (land_at s c wish.class wish.count (Some p)).after in
-    let idle : Idle (mine c t) = record { flights = replaced_alone c s p _ alone.flights; offers = alone.offers } in
-    subst (λ o. Onto c (turn_replied (Landing wish span)) 0 1 (land_at s c wish.class wish.count o)) (sym (alone_found c s span true alone)) idle
+    let idle : Idle (mine c t) = record { flights = replaced_alone c s p _ alone.flights; calm = alone.calm } in
+    subst (λ o. Onto c (turn_replied (Landing wish span)) 0 1 (land_at s c wish.class wish.count o)) (sym (alone_found c s span true alone)) (got_goes c t 0 1 wish _ idle)

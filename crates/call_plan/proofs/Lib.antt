@@ -1,8 +1,14 @@
+pub mod ClientWords
+pub mod Going
+pub mod Swaps
 pub mod Words
 pub mod Lists
 pub mod Aligned
 pub mod Shares
 pub mod Own
+pub mod Large
+pub mod Resizing
+pub mod Moving
 pub mod Getting
 pub mod Putting
 pub mod Dropping

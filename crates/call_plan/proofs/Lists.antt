@@ -22,6 +22,16 @@ by_test F f g e = λ i. F (λ x. e x i)
 pub any-filter : {X : Type 0} (a : X → Bool) (xs : List X) → list_any a xs ≡ list_any (λ _. true) (filter a xs)
 any-filter a xs = by_test (λ f. list_any f xs) a (λ x. a x && true) (λ x. sym (and-true (a x))) ∙ any-both a (λ _. true) xs
 
+-- where some element passes a test, there is one
+pub any_some : {X : Type 0} (f : X → Bool) (xs : List X) → list_any f xs ≡ true → list_any (λ _. true) xs ≡ true
+any_some f [] h = absurd (cc)
+any_some f (x ∷ xs) h = refl
+
+-- where some element passes a test, one passes what that implies
+pub any_weaker : {X : Type 0} (f g : X → Bool) (xs : List X) → ((x : X) → f x ≡ true → g x ≡ true) → list_any f xs ≡ true → list_any g xs ≡ true
+any_weaker f g [] weaker h = absurd (cc)
+any_weaker f g (x ∷ xs) weaker h = grind (arith, weaker x, any_weaker f g xs weaker)
+
 -- where none passes, none is
 pub none-any : {X : Type 0} (f : X → Bool) (xs : List X) → filter f xs ≡ [] → list_any f xs ≡ false
 none-any f xs e = grind (arith, any-filter f xs)

@@ -1,5 +1,5 @@
 -- Where the region of a memalign stands: each step of it keeps what the first page of its extent is a multiple of.
-use Rattle.call_plan.proofs.Words.{◌∣◌, ◌≡◌, ℕ, ◌+◌, ◌*◌, ◌%◌, ◌<◌, ◌≤◌, max, min, Bool, true, false, cond, List, [], ◌∷◌, Option, None, Some, refl, sym, subst, arith, nat_lt, find, All, rules, slice_get, cond_both, ltb-true, nat_tests, All-head, dvd_of_mod-eq-zero, dvd_trans, mod-eq-zero_of_dvd, get_or_from_slice_get, slice_get_within, is_flight_at, region_of, after_fill, Stepped, after_cut, after_grow, after_look, is_live, step_of, Spot, lowest_spots, found_span, before_last, Memalign, Item, Ok, Wish, TurnPoint, Filling, Looking, Landing, AskPoint, Skipping, Trimming, Growing, Paring, Needing, Granting, Committing, Point, Turns, Asks, Tells, Next, Go, Over, More, Ends, Alloc, Split, Answer, Reply, Noted, Took, Grow, Cut, Grown, Landed, Regions, Space, Part, Span, Sound, AskFacts, Held, DeskFacts, align_at, aligned_for, fill_at, land_at, lowest_free, most_regions, max_series, cached_in, is_cacheable, alloc_of, ask_at, chunks_for, commit, done_at, op_at, told, trim, turn_replied, whole_chunks, begin, begin_get, begin_memalign, get, is_alignment, page_align, share, small_hit, step_next, wish_for, with_found, AllCame, Came, IsCacheAligned, MemalignsAreAligned}
+use Rattle.call_plan.proofs.Words.{Move, ◌∣◌, ◌≡◌, ℕ, ◌+◌, ◌*◌, ◌%◌, ◌<◌, ◌≤◌, max, min, Bool, true, false, cond, List, [], ◌∷◌, Option, None, Some, refl, sym, subst, arith, nat_lt, find, All, rules, slice_get, cond_both, ltb-true, nat_tests, All-head, dvd_of_mod-eq-zero, dvd_trans, mod-eq-zero_of_dvd, get_or_from_slice_get, slice_get_within, is_flight_at, region_of, after_fill, Stepped, after_cut, after_grow, after_look, is_live, step_of, Spot, lowest_spots, found_span, before_last, Memalign, Item, Ok, Wish, TurnPoint, Filling, Looking, Landing, AskPoint, Skipping, Trimming, Growing, Paring, Needing, Granting, Committing, Point, Turns, Asks, Tells, Next, Go, Over, More, Ends, Alloc, Split, Answer, Reply, Noted, Took, Grow, Cut, Grown, Landed, Regions, Space, Part, Span, Sound, AskFacts, Held, DeskFacts, align_at, aligned_for, fill_at, land_at, lowest_free, most_regions, max_series, cached_in, is_cacheable, alloc_of, ask_at, chunks_for, commit, done_at, op_at, told, trim, turn_replied, whole_chunks, begin, begin_get, begin_memalign, get, is_alignment, page_align, share, small_hit, step_next, wish_for, with_found, AllCame, Came, IsCacheAligned, MemalignsAreAligned}
 use Rattle.call_plan.specs.Words.{Region}
 use Rattle.call_plan.proofs.Bounds.{run_keeps}
 use Rattle.call_plan.proofs.Multiples.{page_divides, paged_of, run_divides, small_divides}
@@ -58,6 +58,7 @@ module _ (align size : ℕ) where
   -- A wish of the memalign is for its class, at an alignment in pages by which the first byte of an extent is aligned.
   pub record Aims (wish : Wish) : Type 0 where
     pub class : wish.class ≡ aligned_for size align
+    pub stays : wish.moves ≡ false
     pub some : 1 ≤ wish.align
     pub chunk : wish.align ∣ max 512 wish.align
     pub bytes : align ∣ 4096 * wish.align
@@ -93,6 +94,7 @@ module _ (align size : ℕ) where
   NextAligned (Go point) = PointAligned point
   NextAligned (Over index point) = ⊥
   NextAligned More = ⊥
+  NextAligned (Move class) = ⊥
   NextAligned (Ends (Ok (Region addr class))) = (class ≡ aligned_for size align) × (addr % align ≡ 0)
   NextAligned next = Unit {0}
 
@@ -114,12 +116,12 @@ module _ (align size : ℕ) where
       reply ≡ (step_of s c (with_found found (op_at point))).reply → NextAligned (turn_replied point reply)
   turned_aligned s c found (Filling wish count) (Regions []) sound knows e = tt
   turned_aligned s c found (Filling wish count) (Regions (addr ∷ others)) sound (aims, small) e =
-      (aims.class, mod-eq-zero_of_dvd align (dvd_trans align (aims.small small) (filled_aligned s c wish.class count addr others sound small e)))
+      rw aims.stays (aims.class, mod-eq-zero_of_dvd align (dvd_trans align (aims.small small) (filled_aligned s c wish.class count addr others sound small e)))
   turned_aligned s c found (Looking wish) (Took span b skip) sound aims e = skip_aligned wish span b skip (aims, took_aligned s c wish.pages wish.align span b skip aims.some e)
   turned_aligned s c found (Looking wish) (Grow series) sound aims e = cond_both (nat_lt (chunks_for wish.pages) (min series max_series)) _ _ NextAligned (λ _. aims) (λ _. aims)
   turned_aligned s c found (Landing wish span) (Landed first count) sound (aims, starts) e =
       let at = landed_first s c wish.class wish.count span first count e in
-      (aims.class, mod-eq-zero_of_dvd align (subst (λ n. align ∣ n) (sym at) (page_divides align wish.align span.first aims.bytes starts)))
+      rw aims.stays (aims.class, mod-eq-zero_of_dvd align (subst (λ n. align ∣ n) (sym at) (page_divides align wish.align span.first aims.bytes starts)))
   turned_aligned s c found point reply sound knows e = search rules
 
   -- a piece of the extent begins where it has to
@@ -151,18 +153,18 @@ module _ (align size : ℕ) where
 
   -- ---- the fold
 
-  next_aligned : (c : ℕ) (past : List Item) (next : Next) (item : Item) → NextAligned next → Came c next item → NextAligned (step_next next item)
-  next_aligned c past next item knows came = grind (arith, turned_aligned, told_aligned)
+  next_aligned : (c : ℕ) (past : List Item) (desk : DeskFacts) (arena : ℕ) (next : Next) (item : Item) → NextAligned next → Came c next item → NextAligned (step_next next item)
+  next_aligned c past desk arena next item knows came = grind (arith, turned_aligned, told_aligned)
 
   -- ---- where the memalign begins
 
-  wish_aims : (count : ℕ) → is_alignment align ≡ true → Aims (wish_for (aligned_for size align) (page_align align) count)
-  wish_aims count passes = let paged = paged_of align passes in record { class = refl; some = paged.some; chunk = paged.chunk; bytes = paged.bytes; small = small_divides size align passes }
+  wish_aims : (count : ℕ) → is_alignment align ≡ true → Aims (wish_for false (aligned_for size align) (page_align align) count)
+  wish_aims count passes = let paged = paged_of align passes in record { class = refl; stays = refl; some = paged.some; chunk = paged.chunk; bytes = paged.bytes; small = small_divides size align passes }
 
-  get_aligned : (count : ℕ) → is_alignment align ≡ true → NextAligned (get (aligned_for size align) (page_align align) count)
+  get_aligned : (count : ℕ) → is_alignment align ≡ true → NextAligned (get false (aligned_for size align) (page_align align) count)
   get_aligned count passes =
       let class : ℕ = aligned_for size align in
-      let wish : Wish = wish_for class (page_align align) (min count (most_regions class)) in
+      let wish : Wish = wish_for false class (page_align align) (min count (most_regions class)) in
       let aims : Aims wish = wish_aims (min count (most_regions class)) passes in
       cond_both (nat_lt class 36) _ _ NextAligned (λ h. (aims, ltb-true _ _ h)) (λ _. aims)
 
@@ -178,5 +180,16 @@ module _ (align size : ℕ) where
 
 pub memaligns-are_aligned : MemalignsAreAligned
 memaligns-are_aligned c align size desk items addr class cached came e =
-    subst (NextAligned align size) e (run_keeps (Came c) (AllCame c) (λ at item items came. came) (λ past next. NextAligned align size next)
-    (λ past. record { over = λ index point knows. absurd knows; gone = λ arena knows. tt; batch = λ addrs knows. absurd knows; done = λ knows. tt }) (next_aligned align size c) items [] (begin (Memalign align size) desk) came (begin_aligned align size desk cached))
+    subst (NextAligned align size) e (run_keeps (Came c) (AllCame c) (λ at item items came. came) (Memalign align size) (λ past desk next. NextAligned align size next)
+    (λ past. (
+      record {
+        over = λ desk index point knows. absurd knows;
+        gone = λ desk arena knows. tt;
+        batch = λ desk addrs knows. absurd knows;
+        done = λ desk e knows. absurd knows;
+        given = λ desk region e knows. absurd knows;
+        cached = λ desk class region e knows. absurd knows;
+        other = λ desk class knows. absurd knows;
+      },
+      λ desk now answer knows. knows,
+    )) (next_aligned align size c) items [] (begin (Memalign align size) desk) refl came (begin_aligned align size desk cached))

@@ -1,5 +1,6 @@
 -- A call takes no more extents out of a list than stood in it at its first turn there.
-use Rattle.call_plan.proofs.Words.{◌≡◌, refl, ℕ, ◌+◌, ◌≤◌, ◌<◌, Bool, cond, List, [], ◌∷◌, Option, None, Some, arith, ap, find, nat_tests, is_listed, listed, after_purge_take, count_listed, purge_at, find-le-sum_by, Request, Item, Replied, Starved, Then, Batches, Visiting, TurnPoint, Taking, Finding, Offering, AskPoint, Merging, Easing, Returning, Decommitting, Forcing, Point, Turns, Asks, Next, Go, Over, Reply, Taken, Rest, Part, Space, mine, AskFacts, DeskFacts, WantTurn, is_marked, op_at, starved, step, told, turn_replied, want, Moment, after, begin, begin_stage, settle, step_next, desk_fed, Knows, KnowsTurn, HasLeft, Moves, Stride, Strides, Walks, taken_by, taken_of, found_by, found_of, PurgesAreFew}
+use Rattle.call_plan.proofs.Words.{◌≡◌, refl, ℕ, ◌+◌, ◌≤◌, ◌<◌, Bool, cond, List, [], ◌∷◌, Option, None, Some, arith, ap, find, nat_tests, is_listed, listed, after_purge_take, count_listed, purge_at, find-le-sum_by, Request, Item, Replied, Starved, Then, Batches, Visiting, TurnPoint, Taking, Finding, Offering, AskPoint, Merging, Easing, Returning, Decommitting, Forcing, Point, Turns, Asks, Next, Go, Over, Reply, Taken, Rest, Part, Space, mine, AskFacts, DeskFacts, WantTurn, is_marked, op_at, starved, step, told, turn_replied, want, Moment, after, begin, begin_stage, settle, step_next, desk_fed, Knows, KnowsTurn, HasLeft, Moves, Stride, Strides, Walks, taken_by, taken_of, found_by, found_of, PurgesAreFew, Moving, More, Move, Gone, Ends, Nowhere, Held, BatchFacts, batch_goes, gives, hit, move_stage, batch_of, going, flushes, Realloc, begin_resize, begin_realloc, held_at, resizing, class_for, cond_both, nat_lt, ◌^◌, Stage}
+use Rattle.call_plan.specs.Desks.{meant, ready}
 use Rattle.space_model.proofs.Lists.{find_passes}
 
 -- ---- what is still to be taken
@@ -7,6 +8,7 @@ use Rattle.space_model.proofs.Lists.{find_passes}
 -- how many extents may still be taken out of a list after what is at hand
 abbrev pub then_takes : Rest → Then → ℕ
 then_takes rest Batches = 0
+then_takes rest (Moving class) = 0
 then_takes rest (Visiting visit left) = cond (is_listed rest (listed visit.rest)) left 0
 
 abbrev pub turn_takes : Rest → TurnPoint → ℕ
@@ -76,8 +78,23 @@ stride_takes c rest next x strides = grind (arith, point_takes)
 
 -- ---- the fold
 
+batch_takes : (rest : Rest) (arena : ℕ) (gained : Option Held) (batch : Option BatchFacts) → takes rest (batch_goes arena gained batch).next ≡ 0
+batch_takes rest arena gained batch = grind arith
+
+move_takes : (rest : Rest) (request : Request) (desk : DeskFacts) (arena class : ℕ) (found : Option Held) → takes rest (move_stage request arena class found desk).next ≡ 0
+move_takes rest request desk arena class found = grind (arith, nat_tests, batch_takes)
+
+over_takes : (rest : Rest) (index : ℕ) (point : Point) → takes rest (Go point) ≤ takes rest (Over index point)
+over_takes rest index point = grind arith
+
 settled_takes : (rest : Rest) (request : Request) (desk : DeskFacts) (arena : ℕ) (next : Next) → takes rest (settle request desk arena next).next ≤ takes rest next
-settled_takes rest request desk arena next = grind arith
+settled_takes rest request desk arena (Go point) = omega arith
+settled_takes rest request desk arena (Over index point) = over_takes rest index point
+settled_takes rest request desk arena More = omega (arith, batch_takes rest arena (gives request desk) (batch_of (going (flushes request) desk)))
+settled_takes rest request desk arena (Move class) = omega (arith, move_takes rest request desk arena class (hit class desk))
+settled_takes rest request desk arena Gone = omega arith
+settled_takes rest request desk arena (Ends answer) = omega arith
+settled_takes rest request desk arena Nowhere = omega arith
 
 walk_takes : (c : ℕ) (rest : Rest) (xs : List Stride) (at : Moment) → Walks c at xs → taken_of rest at xs ≤ found_of rest at xs + takes rest at.stage.next
 walk_takes c rest [] at walks = omega arith
@@ -86,8 +103,17 @@ walk_takes c rest (x ∷ xs) at (strides, follows, walks) =
     let settled = settled_takes rest at.request (desk_fed at.desk at.stage.arena at.stage.next x.item) at.stage.arena (step_next at.stage.next x.item) in
     omega (arith, stepped, settled, walk_takes c rest xs (after at x.item) walks)
 
+resize_takes : (rest : Rest) (request : Request) (class : ℕ) (region : Held) (desk : DeskFacts) → takes rest (begin_resize request class region desk).next ≡ 0
+resize_takes rest request class region desk = grind (arith, nat_tests, move_takes)
+
+realloc_takes : (rest : Rest) (addr size : ℕ) (held : Option Held) (desk : DeskFacts) → takes rest (begin_realloc addr size held desk).next ≡ 0
+realloc_takes rest addr size None desk = refl
+realloc_takes rest addr size (Some region) desk =
+    cond_both (nat_lt (2 ^ 35) size) _ _ (λ (at : Stage). takes rest at.next ≡ 0) (λ _. refl) (λ _. resize_takes rest (Realloc addr size) (class_for size) region (resizing addr region desk))
+
 begin_takes : (rest : Rest) (request : Request) (desk : DeskFacts) → takes rest (begin_stage request desk).next ≡ 0
+begin_takes rest (Realloc addr size) desk = realloc_takes rest addr size (held_at addr desk) desk
 begin_takes rest request desk = grind (arith, nat_tests)
 
 pub purges-are_few : PurgesAreFew
-purges-are_few c request desk rest strides walks = omega (arith, walk_takes c rest strides (begin request desk) walks, begin_takes rest request desk)
+purges-are_few c request desk rest strides walks = omega (arith, walk_takes c rest strides (begin request desk) walks, begin_takes rest (meant request desk) (ready request desk))

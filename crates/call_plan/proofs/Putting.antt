@@ -1,5 +1,5 @@
 -- What the turns of a call leave that puts extents down: what it knows where it goes on.
-use Rattle.call_plan.proofs.Words.{append-nil, inl, inr, ◌⊎◌, ◌≡◌, ◌≢◌, ℕ, ◌+◌, ◌-◌, ◌*◌, ◌<◌, ◌≤◌, ◌==◌, ◌&&◌, ◌||◌, Bool, true, false, not, cond, List, [], ◌∷◌, ◌++◌, Option, None, Some, refl, sym, ◌∙◌, ap, subst, arith, filter, find, length, lt-ltb, beq, option_map, option_or, nat_tests, cond_both, eqb-true, or_right, length-append, find-append, filter-append, filter-without, Dirty, exchanged, begins_at, is_flight, is_flight_at, is_listed, rest_of, put_down, taken_out, Stepped, joined, begins_either, is_lazy, is_purged, next_flight, is_like, is_right_of, is_left_of, neighbour, put_at_rest, put_beside, may_merge, join_at, after_merge, after_back, find_passes, find_has, filter-begins_at, span_is, neighbour_side, belongs, some_pages, put_down-nobody, listed-nobody, both_true, itself, Then, Batches, Giving, Finding, Point, Turns, Merge, Answer, Placed, Done, Refuses, Purge, Rest, ToDirty, Space, Part, Span, Sound, mine, same_span, end_of, AnswersTo, look_on, merged, onward, put_next, turn_replied, visited, Idle, Flies, HasPair, Settled, Droppable, IsThen, in_flight, Keeps, IsNearer, stages, stages_then, stages_later, left, left_then, left_turn, flights_of, looks_left, purges_left, Visit}
+use Rattle.call_plan.proofs.Words.{append-nil, inl, inr, ◌⊎◌, ◌≡◌, ◌≢◌, ℕ, ◌+◌, ◌-◌, ◌*◌, ◌<◌, ◌≤◌, ◌==◌, ◌&&◌, ◌||◌, Bool, true, false, not, cond, List, [], ◌∷◌, ◌++◌, Option, None, Some, refl, sym, ◌∙◌, ap, subst, arith, filter, find, length, lt-ltb, beq, option_map, option_or, nat_tests, cond_both, eqb-true, or_right, length-append, find-append, filter-append, filter-without, Dirty, exchanged, begins_at, is_flight, is_flight_at, is_listed, rest_of, put_down, taken_out, Stepped, joined, begins_either, is_lazy, is_purged, next_flight, is_like, is_right_of, is_left_of, neighbour, put_at_rest, put_beside, may_merge, join_at, after_merge, after_back, find_passes, find_has, filter-begins_at, span_is, neighbour_side, belongs, some_pages, put_down-nobody, listed-nobody, both_true, itself, Then, Batches, Giving, Finding, Point, Turns, Merge, Answer, Placed, Done, Refuses, Purge, Rest, ToDirty, Space, Part, Span, Sound, mine, same_span, end_of, AnswersTo, look_on, merged, onward, put_next, turn_replied, visited, Idle, Flies, HasPair, Settled, Droppable, IsThen, IsCalm, in_flight, Keeps, IsNearer, stages, stages_then, stages_later, left, left_then, left_turn, flights_of, looks_left, purges_left, Visit}
 use Rattle.call_plan.specs.Table.{drop}
 use Rattle.call_plan.proofs.Lists.{filter-swap, find-kept, find-none, filter-fewer, filter-either, first_heads, none_passes, find-gone}
 use Rattle.call_plan.proofs.Own.{flight_found, flights_exchanged}
@@ -31,16 +31,16 @@ onward_goes c t stage bound later idle is room = grind (arith, nat_tests)
 -- ---- the extent that a reply names
 
 -- the first extent in flight is put down next
-pub next_goes : (c : ℕ) (t : Space) (stage bound : ℕ) (later : Then) → (mine c t).offers ≡ [] → IsThen later → Room stage bound later (30 * flights_of c t) →
+pub next_goes : (c : ℕ) (t : Space) (stage bound : ℕ) (later : Then) → IsCalm (mine c t) → IsThen later → Room stage bound later (30 * flights_of c t) →
     Keeps c t stage bound (put_next later (next_flight c t.parts))
 next_goes c t stage bound later offers is room =
     elim (find (λ q. is_flight c q.state) t.parts) as (λ o. find (λ q. is_flight c q.state) t.parts ≡ o → Keeps c t stage bound (put_next later (option_map (λ p. p.span) o))) [
-      | None ↦ λ e. onward_goes c t stage bound later (record { flights = none_passes (λ q. is_flight c q.state) t.parts e; offers = offers }) is (fewer_room stage bound later 0 _ (omega arith) room)
+      | None ↦ λ e. onward_goes c t stage bound later (record { flights = none_passes (λ q. is_flight c q.state) t.parts e; calm = offers }) is (fewer_room stage bound later 0 _ (omega arith) room)
       | Some p ↦ λ e.
           let head = first_heads (λ q. is_flight c q.state) t.parts p e in
           let found : in_flight p.span (mine c t).flights ≡ Some p = ap (in_flight p.span) head.1 ∙ ap (λ (v : Bool). cond v (Some p) (in_flight p.span head.0)) (span_itself p.span) in
           let some : flights_of c t ≡ length (p ∷ head.0) = ap length head.1 in (
-            (omega arith, record { part = p; found = found; is = tt; offers = offers }, is),
+            (omega arith, record { part = p; found = found; is = tt; calm = offers }, is),
             near c t stage bound later (Turns (Finding p.span 0 true later)) (30 * flights_of c t) refl (omega (arith, some)) room,
           )
     ] refl
@@ -115,7 +115,7 @@ looks_early : (tries : ℕ) → tries < 2 → 4 ≤ looks_left tries
 looks_early tries h = grind (arith, nat_tests)
 
 -- the neighbour is in flight too
-beside_onto : (c : ℕ) (s : Space) (own : Span) (tries : ℕ) (fresh : Bool) (later : Then) (p other : Part) → Sound s → tries < 3 → (mine c s).offers ≡ [] →
+beside_onto : (c : ℕ) (s : Space) (own : Span) (tries : ℕ) (fresh : Bool) (later : Then) (p other : Part) → Sound s → tries < 3 → IsCalm (mine c s) →
     IsThen later → in_flight own (mine c s).flights ≡ Some p → Settled fresh p → At c s own p → Near tries p other s.parts →
     Onto c (turn_replied (Finding own tries fresh later)) (stages_then later) (left_turn (flights_of c s) 0 (Finding own tries fresh later)) (put_beside s c p (Some other))
 beside_onto c s own tries fresh later p other sound look offers is found settled at near =
@@ -148,14 +148,14 @@ beside_onto c s own tries fresh later p other sound look offers is found settled
     (λ h.
     let both = both_true (tries == 0) _ h in
     let all : looks_left tries ≡ 7 = ap looks_left (eqb-true _ _ both.0) in (
-      ((record { low_part = p; high_part = taken; low_found = still; high_found = out; alike = merge_may p taken (sym rest) (sym committed); side_by_side = sym (eqb-true _ _ both.1); low_settled = settled; high_settled = taken_settled; offers = offers }, is), tt),
+      ((record { low_part = p; high_part = taken; low_found = still; high_found = out; alike = merge_may p taken (sym rest) (sym committed); side_by_side = sym (eqb-true _ _ both.1); low_settled = settled; high_settled = taken_settled; calm = offers }, is), tt),
       inr (refl, omega (arith, all, more, one)),
     ))
     (λ h.
     let at_own = subst (λ (span : Span). ((tries == 0 && other.span.first == end_of span) || end_of other.span == span.first) ≡ true) at.spans near.side in
     let side : end_of other.span ≡ own.first = eqb-true _ _ (rw h at at_own) in
     rw (lt-ltb _ _ near.early) (
-      ((record { low_part = taken; high_part = p; low_found = out; high_found = still; alike = merge_may taken p rest committed; side_by_side = side; low_settled = taken_settled; high_settled = settled; offers = offers }, is), tt),
+      ((record { low_part = taken; high_part = p; low_found = out; high_found = still; alike = merge_may taken p rest committed; side_by_side = side; low_settled = taken_settled; high_settled = settled; calm = offers }, is), tt),
       inr (refl, omega (arith, looks_early tries near.early, more, one)),
     ))
 
@@ -171,7 +171,7 @@ down_flies_not : (c : ℕ) (p : Part) → filter (λ q. is_flight c q.state) (pu
 down_flies_not c p = ap (λ (v : Bool). cond v (put_down p ∷ []) []) (put_down-nobody c (rest_of p.state))
 
 -- the extent is put down
-rest_onto : (c : ℕ) (s : Space) (own : Span) (tries : ℕ) (fresh : Bool) (later : Then) (p : Part) → (mine c s).offers ≡ [] → IsThen later →
+rest_onto : (c : ℕ) (s : Space) (own : Span) (tries : ℕ) (fresh : Bool) (later : Then) (p : Part) → IsCalm (mine c s) → IsThen later →
     in_flight own (mine c s).flights ≡ Some p →
     Onto c (turn_replied (Finding own tries fresh later)) (stages_then later) (left_turn (flights_of c s) 0 (Finding own tries fresh later)) (put_at_rest s c p)
 rest_onto c s own tries fresh later p offers is found =
@@ -185,7 +185,7 @@ rest_onto c s own tries fresh later p offers is found =
 -- ---- an extent that is purged
 
 -- an extent is purged lazily, or offered to its hook
-pub drop_goes : (c : ℕ) (t : Space) (stage bound : ℕ) (span : Span) (lazy : Bool) (later : Then) (p : Part) → (mine c t).offers ≡ [] → IsThen later →
+pub drop_goes : (c : ℕ) (t : Space) (stage bound : ℕ) (span : Span) (lazy : Bool) (later : Then) (p : Part) → IsCalm (mine c t) → IsThen later →
     in_flight span (mine c t).flights ≡ Some p → (lazy ≡ true → rest_of p.state ≡ ToDirty) → Droppable p → Room stage bound later (30 * (flights_of c t - 1) + 16) →
     Keeps c t stage bound (drop span lazy later)
 drop_goes c t stage bound span lazy later p offers is found dirty backed room = grind (arith, near, dirty)
@@ -194,7 +194,7 @@ pub listed_dirty : (r : Rest) → is_listed r Dirty ≡ true → r ≡ ToDirty
 listed_dirty r h = grind arith
 
 -- an extent that belongs to the dirty ones, of which none may stay, is dropped
-purge_goes : (c : ℕ) (s : Space) (own : Span) (tries : ℕ) (fresh : Bool) (later : Then) (lazy : Bool) (p : Part) → (mine c s).offers ≡ [] → IsThen later →
+purge_goes : (c : ℕ) (s : Space) (own : Span) (tries : ℕ) (fresh : Bool) (later : Then) (lazy : Bool) (p : Part) → IsCalm (mine c s) → IsThen later →
     in_flight own (mine c s).flights ≡ Some p → Settled fresh p → is_listed (rest_of p.state) Dirty ≡ true →
     Keeps c s (stages_then later) (left_turn (flights_of c s) 0 (Finding own tries fresh later)) (turn_replied (Finding own tries fresh later) (Purge lazy))
 purge_goes c s own tries true later lazy p offers is found settled purged =
@@ -206,12 +206,12 @@ put_found : (c : ℕ) (s : Space) (own : Span) (tries : ℕ) (fresh : Bool) (lat
     IsThen later → neighbour tries flies.part s.parts ≡ o →
     Onto c (turn_replied (Finding own tries fresh later)) (stages_then later) (left_turn (flights_of c s) 0 (Finding own tries fresh later)) (put_beside s c flies.part o)
 put_found c s own tries fresh later flies (Some other) sound look is e =
-    beside_onto c s own tries fresh later flies.part other sound look flies.offers is flies.found flies.is (found_at c s own flies.part sound flies.found)
+    beside_onto c s own tries fresh later flies.part other sound look flies.calm is flies.found flies.is (found_at c s own flies.part sound flies.found)
     (neighbour_near tries flies.part other s.parts e)
 put_found c s own tries fresh later flies None sound look is e =
     cond_both (is_purged s flies.part) _ _ (Onto c (turn_replied (Finding own tries fresh later)) (stages_then later) (left_turn (flights_of c s) 0 (Finding own tries fresh later)))
-    (λ h. purge_goes c s own tries fresh later (is_lazy s) flies.part flies.offers is flies.found flies.is (both_true (is_listed (rest_of flies.part.state) Dirty) _ h).0)
-    (λ h. rest_onto c s own tries fresh later flies.part flies.offers is flies.found)
+    (λ h. purge_goes c s own tries fresh later (is_lazy s) flies.part flies.calm is flies.found flies.is (both_true (is_listed (rest_of flies.part.state) Dirty) _ h).0)
+    (λ h. rest_onto c s own tries fresh later flies.part flies.calm is flies.found)
 
 -- the reply to a look for a neighbour
 pub put_onto : (c : ℕ) (s : Space) (own : Span) (tries : ℕ) (fresh : Bool) (later : Then) → Sound s → tries < 3 → (flies : Flies (mine c s) own (Settled fresh)) → IsThen later →
@@ -226,7 +226,7 @@ looking : (c : ℕ) (t : Space) (own : Span) (own_low fresh : Bool) (later : The
 looking c t own own_low fresh later bound flies is most = grind arith
 
 -- both are one from now on
-join_onto : (c : ℕ) (s : Space) (low high : Span) (own_low fresh : Bool) (later : Then) (p q : Part) → (mine c s).offers ≡ [] → IsThen later → Settled fresh p →
+join_onto : (c : ℕ) (s : Space) (low high : Span) (own_low fresh : Bool) (later : Then) (p q : Part) → IsCalm (mine c s) → IsThen later → Settled fresh p →
     in_flight low (mine c s).flights ≡ Some p → in_flight high (mine c s).flights ≡ Some q → At c s low p → At c s high q → end_of low ≡ high.first →
     Onto c (merged own_low fresh later) (stages_then later) (30 * (flights_of c s - 2) + cond own_low 5 2 + purges_left fresh + left_then later) (join_at s (Some p) (Some q))
 join_onto c s low high own_low fresh later p q offers is settled low_found high_found at to side =
@@ -253,10 +253,10 @@ join_onto c s low high own_low fresh later p q offers is settled low_found high_
     ∙ find-append (λ x. same_span x.span (joined p q).span) (filter stay (mine c s).flights) (joined p q ∷ [])
     ∙ ap (λ o. option_or o (in_flight (joined p q).span (joined p q ∷ []))) (find-gone (λ x. same_span x.span (joined p q).span) stay (mine c s).flights goes)
     ∙ ap (λ (v : Bool). cond v (Some (joined p q)) None) (span_itself (joined p q).span) in
-    looking c t (joined p q).span own_low fresh later (30 * (flights_of c s - 2)) (record { part = joined p q; found = found; is = settled_like fresh p (joined p q) refl settled; offers = offers }) is (omega (arith, one, two, front, count))
+    looking c t (joined p q).span own_low fresh later (30 * (flights_of c s - 2)) (record { part = joined p q; found = found; is = settled_like fresh p (joined p q) refl settled; calm = offers }) is (omega (arith, one, two, front, count))
 
 -- the neighbour is put down again
-apart_goes : (c : ℕ) (s : Space) (own other : Span) (own_low fresh : Bool) (later : Then) (p q : Part) → (mine c s).offers ≡ [] → IsThen later → Settled fresh p →
+apart_goes : (c : ℕ) (s : Space) (own other : Span) (own_low fresh : Bool) (later : Then) (p q : Part) → IsCalm (mine c s) → IsThen later → Settled fresh p →
     in_flight own (mine c s).flights ≡ Some p → in_flight other (mine c s).flights ≡ Some q → At c s own p → At c s other q → own.first ≢ other.first →
     Keeps c (record s { parts = exchanged (begins_at q.span.first) s.parts (put_down q ∷ []) }) (stages_then later)
     (30 * (flights_of c s - 2) + cond own_low 5 2 + purges_left fresh + left_then later) (look_on p.span own_low fresh later)
@@ -270,7 +270,7 @@ apart_goes c s own other own_low fresh later p q offers is settled own_found oth
     ap (in_flight own) flights ∙ find-kept (λ x. same_span x.span own) (λ x. not (gone x)) (mine c s).flights (begins_not own q.span.first elsewhere) ∙ own_found in
     let count : flights_of c t ≡ length (filter (λ x. not (gone x)) (mine c s).flights) = ap length flights in
     looking c t p.span own_low fresh later (30 * (flights_of c s - 2))
-    (record { part = p; found = ap (λ span. in_flight span (mine c t).flights) at.spans ∙ found; is = settled; offers = offers }) is (omega (arith, fewer, count))
+    (record { part = p; found = ap (λ span. in_flight span (mine c t).flights) at.spans ∙ found; is = settled; calm = offers }) is (omega (arith, fewer, count))
 
 -- the answer to a merge
 pub merge_onto : (c : ℕ) (s : Space) (low high : Span) (own_low fresh : Bool) (later : Then) (answer : Answer) → Sound s → HasPair (mine c s) low high fresh → IsThen later →
@@ -285,13 +285,13 @@ merge_onto c s low high own_low fresh later answer sound pair is kind =
     by_answer : (own_low : Bool) (answer : Answer) → At c s low pair.low_part → At c s high pair.high_part → low.first < high.first → AnswersTo (Merge low high) answer →
         Onto c (merged own_low fresh later) (stages_then later) (30 * (flights_of c s - 2) + cond own_low 5 2 + purges_left fresh + left_then later) (after_merge s c own_low (Merge low high) answer)
     by_answer own_low Done at to below kind =
-        rw (at.found, to.found) (join_onto c s low high own_low fresh later pair.low_part pair.high_part pair.offers is pair.low_settled pair.low_found pair.high_found at to pair.side_by_side)
+        rw (at.found, to.found) (join_onto c s low high own_low fresh later pair.low_part pair.high_part pair.calm is pair.low_settled pair.low_found pair.high_found at to pair.side_by_side)
     by_answer true Refuses at to below kind =
-        rw (at.found, to.found) (apart_goes c s low high true fresh later pair.low_part pair.high_part pair.offers is pair.low_settled pair.low_found pair.high_found at to (λ e. absurd (omega (arith, e, below))))
+        rw (at.found, to.found) (apart_goes c s low high true fresh later pair.low_part pair.high_part pair.calm is pair.low_settled pair.low_found pair.high_found at to (λ e. absurd (omega (arith, e, below))))
     by_answer false Refuses at to below kind =
-        rw (at.found, to.found) (apart_goes c s high low false fresh later pair.high_part pair.low_part pair.offers is pair.high_settled pair.high_found pair.low_found to at (λ e. absurd (omega (arith, e, below))))
+        rw (at.found, to.found) (apart_goes c s high low false fresh later pair.high_part pair.low_part pair.calm is pair.high_settled pair.high_found pair.low_found to at (λ e. absurd (omega (arith, e, below))))
     by_answer own_low (Placed b zeroed first) at to below kind = absurd (kind first b zeroed refl)
 
 -- the reply to regions that went back
-pub back_onto : (c : ℕ) (s : Space) (addrs : List ℕ) → (mine c s).offers ≡ [] → Onto c (turn_replied (Giving addrs)) 1 0 (after_back s c addrs)
+pub back_onto : (c : ℕ) (s : Space) (addrs : List ℕ) → IsCalm (mine c s) → Onto c (turn_replied (Giving addrs)) 1 0 (after_back s c addrs)
 back_onto c s addrs offers = next_goes c (after_back s c addrs).after 1 0 Batches offers tt (inl (omega arith))

@@ -1,5 +1,5 @@
 -- What stands after each refused ask.
-use Rattle.call_plan.proofs.Words.{◌≡◌, ℕ, ◌+◌, Bool, true, false, cond, Option, Some, ◌∙◌, ap, subst, arith, find, lost, won, is_flight_at, Stepped, whole_at, apart_at, next_flight, step_of, is_regranted, Replied, Refused, AskPoint, Skipping, Trimming, Growing, Paring, Needing, Granting, Committing, Merging, Easing, Returning, Decommitting, Forcing, Asks, Next, Ends, Refuses, Reply, Whole, Joined, Kept, Abandoned, Part, Space, Span, Sound, mine, AskFacts, ask_at, done_at, need_chunks, told, Alone, Flies, Idle, KnowsAsk, Keeps, flights_of, left_ask, stages_ask, with_found, AfterDalloc, AfterRefusal, HoldsExtent, Rests, RefusalsStand}
+use Rattle.call_plan.proofs.Words.{◌≡◌, ℕ, ◌+◌, Bool, true, false, cond, Option, Some, ◌∙◌, ap, subst, arith, find, lost, won, is_flight_at, Stepped, whole_at, apart_at, next_flight, step_of, is_regranted, Replied, Refused, AskPoint, Skipping, Trimming, Growing, Paring, Needing, Granting, Committing, Merging, Easing, Returning, Decommitting, Forcing, Asks, Next, Ends, Refuses, Reply, Whole, Joined, Kept, Abandoned, Part, Space, Span, Sound, mine, AskFacts, ask_at, done_at, need_chunks, told, Alone, Flies, Idle, KnowsAsk, Keeps, flights_of, left_ask, stages_ask, with_found, AfterDalloc, AfterRefusal, HoldsExtent, Rests, RefusalsStand, Cutting, Extending, Sparing, Backing, Joining, move}
 use Rattle.call_plan.proofs.Getting.{alone_found}
 use Rattle.call_plan.proofs.Putting.{found_at}
 use Rattle.call_plan.proofs.Rooms.{flown}
@@ -20,7 +20,7 @@ rests c t stage bound next there is keeps idle = (is, idle (subst (Keeps c t sta
 holds : (c : ℕ) (t : Space) (stage bound count : ℕ) (span : Span) (P : Part → Type 0) (next there : Next) → next ≡ there → flights_of c t ≡ count → Keeps c t stage bound next →
     (Keeps c t stage bound there → Flies (mine c t) span P) → HoldsExtent c t count span next there
 holds c t stage bound count span P next there is counted keeps flies =
-    let f = flies (subst (Keeps c t stage bound) is keeps) in (is, counted, record { part = f.part; found = f.found; is = tt; offers = f.offers })
+    let f = flies (subst (Keeps c t stage bound) is keeps) in (is, counted, record { part = f.part; found = f.found; is = tt; calm = f.calm })
 
 module _ (c : ℕ) (s t : Space) (asked : AskFacts) (reply : Reply) (found : Option ℕ) (sound : Sound s) where
   -- the ask of a point was refused
@@ -61,6 +61,11 @@ module _ (c : ℕ) (s t : Space) (asked : AskFacts) (reply : Reply) (found : Opt
       holds c t _ _ _ span _ _ _ (ap (told (Decommitting span later) asked) r) (omega (arith, subst (Flew (Decommitting span later)) r flew)) keeps (λ k. k.0.0.0)
   stands_at (Forcing span later) knows r flew keeps =
       holds c t _ _ _ span _ _ _ (ap (told (Forcing span later) asked) r) (omega (arith, subst (Flew (Forcing span later)) r flew)) keeps (λ k. k.0.1)
+  stands_at (Cutting resize) knows r flew keeps = rests c t _ _ _ (move resize) (ap (told (Cutting resize) asked) r) keeps (λ k. k.0)
+  stands_at (Extending resize) knows r flew keeps = rests c t _ _ _ (move resize) (ap (told (Extending resize) asked) r) keeps (λ k. k.0)
+  stands_at (Sparing resize span b) (widens, alone, at, more) r flew keeps = rests c t _ _ _ (move resize) (ap (told (Sparing resize span b) asked) (r ∙ whole_told c s span b alone)) keeps (λ k. k.0)
+  stands_at (Backing resize span) (widens, alone, at, pages) r flew keeps = rests c t _ _ _ (move resize) (ap (told (Backing resize span) asked) (r ∙ whole_told c s span false alone)) keeps (λ k. k.0)
+  stands_at (Joining resize span) (widens, alone, at, pages) r flew keeps = rests c t _ _ _ (move resize) (ap (told (Joining resize span) asked) (r ∙ whole_told c s span true alone)) keeps (λ k. k.0)
 
 pub refusals-stand : RefusalsStand
 refusals-stand c s t point asked reply sound (knows, (is, kind)) refused (found, after, replied) =

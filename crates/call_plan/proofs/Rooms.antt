@@ -1,5 +1,5 @@
 -- Whoever has the room that is needed at a point has it wherever the call goes.
-use Rattle.call_plan.proofs.Words.{◌≡◌, ℕ, ◌+◌, ◌-◌, ◌*◌, ◌<◌, ◌≤◌, Bool, true, false, cond, cond_both, find, max, Option, None, Some, refl, sym, ◌∙◌, ap, subst, arith, length, sum_by, nat_tests, length-filter, is_flight, flight, lost, won, op_stands, step_of, op_keeps, Replied, Told, Starved, Op, Reply, Space, Sound, Mine, mine, AskFacts, same_span, Span, Part, Stepped, Settled, Purge, Then, put_at, put_beside, neighbour, is_purged, is_flight_at, is_listed, rest_of, Dirty, both_true, TurnPoint, Giving, Finding, AskPoint, Turns, Asks, Tells, Next, Go, is_marked, op_at, done_at, starved, turn_replied, told, Idle, KnowsTurn, Keeps, left, stages, with_found, empties, flying, needed_ask, needed_next, needed_turn, room_then, RoomsSuffice}
+use Rattle.call_plan.proofs.Words.{◌≡◌, ℕ, ◌+◌, ◌-◌, ◌*◌, ◌<◌, ◌≤◌, Bool, true, false, cond, cond_both, find, max, Option, None, Some, refl, sym, ◌∙◌, ap, subst, arith, length, sum_by, nat_tests, length-filter, is_flight, flight, lost, won, op_stands, step_of, op_keeps, Replied, Told, Starved, Op, Reply, Space, Sound, Mine, mine, AskFacts, same_span, Span, Part, Stepped, Settled, Purge, Then, put_at, put_beside, neighbour, is_purged, is_flight_at, is_listed, rest_of, Dirty, both_true, TurnPoint, Giving, Finding, AskPoint, Turns, Asks, Tells, Next, Go, is_marked, op_at, done_at, starved, turn_replied, told, Idle, KnowsTurn, Keeps, left, stages, with_found, empties, flying, needed_ask, needed_next, needed_turn, room_then, RoomsSuffice, Cutting, Extending, KnowsAsk}
 use Rattle.call_plan.proofs.Lists.{filter-fewer}
 use Rattle.call_plan.proofs.Own.{flight_found}
 use Rattle.call_plan.proofs.Standing.{wants-stand}
@@ -29,10 +29,21 @@ turned_spends : (f g : ℕ) (point : TurnPoint) (found : Option ℕ) (c : ℕ) (
     HasNext g (turn_replied point reply) → HasNext f (Go (Turns point)) → needed_next g (turn_replied point reply) + 1 ≤ needed_turn f point
 turned_spends f g point found c s reply may fresh e has some = first_of (grind (arith, nat_tests), cc)
 
+-- a region is cut, or an alloc behind it asked for, while nothing is in flight
+abbrev pub AskFlies : ℕ → AskPoint → Type 0
+AskFlies f (Cutting resize) = f ≡ 0
+AskFlies f (Extending resize) = f ≡ 0
+AskFlies f point = Unit {0}
+
+ask_flies : (m : Mine) (point : AskPoint) → KnowsAsk m point → AskFlies (flying m) point
+ask_flies m (Cutting resize) knows = ap length knows.0
+ask_flies m (Extending resize) knows = ap length knows.0.flights
+ask_flies m point knows = tt
+
 told_spends : (f g : ℕ) (point : AskPoint) (asked : AskFacts) (found : Option ℕ) (c : ℕ) (s : Space) (reply : Reply) →
     g + lost (with_found found (done_at point asked)) reply ≡ f + won c s (with_found found (done_at point asked)) reply →
-    HasNext g (told point asked reply) → needed_next g (told point asked reply) + 1 ≤ needed_ask f point
-told_spends f g point asked found c s reply e has = grind (arith, nat_tests)
+    HasNext g (told point asked reply) → AskFlies f point → needed_next g (told point asked reply) + 1 ≤ needed_ask f point
+told_spends f g point asked found c s reply e has flies = grind (arith, nat_tests)
 
 -- an extent that was purged belongs to the dirty ones no more, of which alone a look replies a purge
 beside_fresh : (c : ℕ) (s : Space) (own : Span) (tries : ℕ) (fresh : Bool) (later : Then) (p : Part) (other : Option Part) → Settled fresh p → IsFresh (Finding own tries fresh later) (put_beside s c p other).reply
@@ -103,7 +114,7 @@ rooms-suffice c s t (Asks point (Some asked)) (Replied reply) room sound knows (
     let keeps = steps-keep c s t (Asks point (Some asked)) (Replied reply) sound knows (found, after, replied) in
     let e = flown c s t (with_found found (done_at point asked)) reply sound stands after replied in
     let spends = told_spends (flying (mine c s)) (flying (mine c t)) point asked found c s reply e
-    (keeps_next c t (stages (Asks point (Some asked))) (left c s (Asks point (Some asked))) (told point asked reply) keeps) in (
+    (keeps_next c t (stages (Asks point (Some asked))) (left c s (Asks point (Some asked))) (told point asked reply) keeps) (ask_flies (mine c s) point knows.0) in (
       (λ no. omega (arith, spends, enough)),
       subst (λ v. needed_next (flying (mine c t)) (told point asked reply) ≤ cond v (max (max room 16) (16 * empties c (done_at point asked) s)) (room - 1)) (sym (never_starves point asked)) (omega (arith, spends, enough)),
     )

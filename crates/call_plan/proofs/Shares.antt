@@ -1,6 +1,6 @@
 -- Regions that are shared out, one after another.
 use Rattle.call_plan.proofs.Words.{◌≡◌, ℕ, ◌+◌, ◌-◌, ◌<◌, ◌≤◌, map, min, ap, arith, suc, zero, range_with_len, address_behind, held_region, sharing}
-use Rattle.thread_cache.specs.Desks.{DeskFacts, caching}
+use Rattle.call_plan.specs.Clients.{DeskFacts, caching}
 
 -- one more of those that landed
 pub landed_more : (arena class first place count : ℕ) (desk : DeskFacts) → place < count →

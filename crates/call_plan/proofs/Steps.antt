@@ -1,8 +1,9 @@
 -- Whatever comes of what a call wants leads on.
-use Rattle.call_plan.proofs.Words.{rules, add-zero, append-nil, inr, filter, ◌≡◌, ℕ, ◌+◌, ◌-◌, ◌*◌, Bool, true, false, not, cond, List, [], ◌∷◌, Option, None, Some, refl, sym, ◌∙◌, ap, subst, arith, max, length, find, nat_tests, is_active, is_listed, is_flight, begins_at, moved_to, turned_parts, turned_in_order, turned_sum, nothing_sum, filter_nothing, sum_by, flight, Stepped, replaced, after_advance, after_set, setting_stands, after_reset, after_destroy, doom_at, step_of, after_cut, put_down-nobody, itself, Replied, Told, Starved, Split, Answer, Reply, Doomed, Rest, ToDirty, ToRetained, Setting, Space, Part, Span, Sound, mine, AskFacts, AnswersTo, Wish, Change, TurnPoint, Filling, Looking, Landing, Giving, Finding, Taking, Offering, Advancing, Changing, Making, Resetting, Destroying, Dooming, Publishing, Owning, AskPoint, Skipping, Trimming, Growing, Paring, Needing, Granting, Committing, Merging, Easing, Returning, Decommitting, Forcing, Turns, Asks, Tells, Next, Go, ask_at, turn_replied, starved, is_marked, told, done_at, op_at, whole_chunks, skipped, trimmed, grown, needed, grant_split, committed, Idle, Alone, Gets, KnowsAsk, KnowsTurn, Heard, IsChange, is_of_arena, with_found, Keeps, stages_turn, stages_ask, stages_change, left, left_ask, flights_of, StepsKeep}
+use Rattle.call_plan.proofs.Words.{rules, add-zero, append-nil, inr, filter, ◌≡◌, ℕ, ◌+◌, ◌-◌, ◌*◌, Bool, true, false, not, cond, List, [], ◌∷◌, Option, None, Some, refl, sym, ◌∙◌, ap, subst, arith, max, length, find, nat_tests, is_active, is_listed, is_flight, begins_at, moved_to, turned_parts, turned_in_order, turned_sum, nothing_sum, filter_nothing, sum_by, flight, Stepped, replaced, after_advance, after_set, setting_stands, after_reset, after_destroy, doom_at, step_of, after_cut, put_down-nobody, itself, Replied, Told, Starved, Split, Answer, Reply, Doomed, Rest, ToDirty, ToRetained, Setting, Space, Part, Span, Sound, mine, AskFacts, AnswersTo, Wish, Change, TurnPoint, Filling, Looking, Landing, Giving, Finding, Taking, Offering, Advancing, Changing, Making, Resetting, Destroying, Dooming, Publishing, Owning, Widening, Narrowing, AskPoint, Skipping, Trimming, Growing, Paring, Needing, Granting, Committing, Merging, Easing, Returning, Decommitting, Forcing, Cutting, Extending, Sparing, Backing, Joining, Turns, Asks, Tells, Next, Go, ask_at, turn_replied, starved, is_marked, told, done_at, op_at, whole_chunks, skipped, trimmed, grown, needed, grant_split, committed, Idle, Alone, Gets, KnowsAsk, KnowsTurn, Heard, IsChange, is_of_arena, with_found, Keeps, stages_turn, stages_ask, stages_change, left, left_ask, flights_of, StepsKeep}
 use Rattle.call_plan.proofs.Lists.{filter-fewer}
 use Rattle.call_plan.proofs.Own.{flight_found}
 use Rattle.call_plan.proofs.Getting.{Onto, kept_span, cut_onto, commit_onto, alloc_onto, look_onto, land_onto, commit_goes, grant_goes, trim_goes, gets_kept, replaced_idle, begins_itself}
+use Rattle.call_plan.proofs.Resizing.{extend_onto, back_up_onto, join_up_onto, narrow_onto, spare_onto, trim_onto, widen_onto}
 use Rattle.call_plan.proofs.Putting.{merge_onto, back_onto, put_onto}
 use Rattle.call_plan.proofs.Dropping.{lazy_onto, offer_onto, return_onto, decommit_onto, forced_onto, take_onto}
 
@@ -37,10 +38,10 @@ destroy_keeps : (c : ℕ) (s : Space) (cached : ℕ) → Idle (mine c s) → Ont
 destroy_keeps c s cached idle = let still = moved_idle c s ToRetained (λ p. not (is_listed ToRetained p.state)) idle in grind (arith, itself c)
 
 doom_keeps : (c : ℕ) (s : Space) (parts : List Part) → s.parts ≡ parts → Idle (mine c s) → (mine c s).dying ≡ true → Onto c (turn_replied Dooming) 0 (2 * length s.parts + 1) (doom_at s parts)
-doom_keeps c s [] e idle dying = record { flights = idle.flights; offers = idle.offers }
+doom_keeps c s [] e idle dying = record { flights = idle.flights; calm = idle.calm }
 doom_keeps c s (p ∷ ps) e idle dying =
     let t : Space = (replaced s p [] (Doomed p.span p.committed)).after in
-    let still : Idle (mine c t) = record { flights = replaced_idle c s (begins_at p.span.first) [] idle.flights; offers = idle.offers } in
+    let still : Idle (mine c t) = record { flights = replaced_idle c s (begins_at p.span.first) [] idle.flights; calm = idle.calm } in
     let first : find (λ _. true) s.parts ≡ Some p = ap (find (λ _. true)) e in
     let fewer = filter-fewer (λ _. true) (begins_at p.span.first) s.parts p first (begins_itself p) in
     let count : length t.parts ≡ length (filter (λ q. not (begins_at p.span.first q)) s.parts) = ap length (append-nil (filter (λ q. not (begins_at p.span.first q)) s.parts)) in
@@ -53,9 +54,9 @@ own_keeps c s addr frees past idle = grind arith
 trim_keeps : (c : ℕ) (s : Space) (wish : Wish) (span : Span) (b : Bool) (answer : Answer) → Gets (mine c s) wish → Alone (mine c s) span b → AnswersTo (Split span wish.pages) answer →
     Onto c (trimmed wish b) 0 8 (after_cut s c true (Split span wish.pages) answer)
 trim_keeps c s wish span b answer gets alone kind =
-    cut_onto c s (trimmed wish b) 8 true span wish.pages b answer alone kind
-    (λ t e kept. commit_goes c t 8 wish (kept_span true wish.pages span) b (gets_kept c s t wish gets e) kept refl (omega arith))
-    (λ t e idle. (((gets_kept c s t wish gets e, idle), tt), inr (refl, omega arith)))
+    cut_onto c s (trimmed wish b) 0 8 true span wish.pages b answer alone kind
+    (λ t e kept. commit_goes c t 8 wish (kept_span true wish.pages span) b (gets_kept c s t wish gets e.0) kept refl (omega arith))
+    (λ t e idle. (((gets_kept c s t wish gets e.0, idle), tt), inr (refl, omega arith)))
 
 -- ---- what a step keeps
 
@@ -64,7 +65,7 @@ turn_keeps : (c : ℕ) (s : Space) (point : TurnPoint) (found : Option ℕ) → 
 turn_keeps c s (Filling wish count) found sound (gets, idle, small, some) = fill_keeps c s wish count gets idle
 turn_keeps c s (Looking wish) found sound (gets, idle) = look_onto c s wish gets idle
 turn_keeps c s (Landing wish span) found sound (gets, alone, pages) = land_onto c s wish span alone
-turn_keeps c s (Giving addrs) found sound gives = back_onto c s addrs gives.idle.offers
+turn_keeps c s (Giving addrs) found sound gives = back_onto c s addrs gives.idle.calm
 turn_keeps c s (Finding own tries fresh later) found sound (look, flies, is) =
     rw (flight_found c own s.parts, flies.found) (put_onto c s own tries fresh later sound look flies is)
 turn_keeps c s (Taking visit left) found sound (idle, is, some) = take_onto c s visit left idle is some
@@ -75,8 +76,10 @@ turn_keeps c s (Making index setting) found sound (idle, stands, of) = make_keep
 turn_keeps c s (Resetting cached) found sound (idle, fewer) = reset_keeps c s cached idle
 turn_keeps c s (Destroying cached) found sound (idle, fewer) = destroy_keeps c s cached idle
 turn_keeps c s Dooming found sound (idle, dying) = doom_keeps c s s.parts refl idle dying
-turn_keeps c s (Publishing addr) found sound (idle, held) = record { flights = idle.flights; offers = idle.offers }
+turn_keeps c s (Publishing addr) found sound (idle, held) = record { flights = idle.flights; calm = idle.calm }
 turn_keeps c s (Owning addr frees past) found sound idle = own_keeps c s addr frees past idle
+turn_keeps c s (Widening resize) found sound (idle, widens) = widen_onto c s resize sound idle widens
+turn_keeps c s (Narrowing resize) found sound (idle, narrows) = narrow_onto c s resize idle narrows
 
 -- what is so of an ask that is the point's own is so of the ask that was heard
 abbrev asked_at : AskPoint → AskFacts → AskFacts
@@ -85,34 +88,39 @@ asked_at point asked = record asked { ask = ask_at point }
 ask_keeps : (c : ℕ) (s : Space) (point : AskPoint) (asked : AskFacts) (found : Option ℕ) → Sound s → KnowsAsk (mine c s) point → AnswersTo (ask_at point) asked.answer →
     Onto c (told point (asked_at point asked)) (stages_ask point) (left_ask (flights_of c s) point) (step_of s c (with_found found (done_at point (asked_at point asked))))
 ask_keeps c s (Skipping wish span b skip) asked found sound (gets, alone, some, holds) kind =
-    cut_onto c s (skipped wish b) 10 false span skip b asked.answer alone kind
-    (λ t e kept. trim_goes c t 10 wish (kept_span false skip span) b (gets_kept c s t wish gets e) kept (omega arith) (omega arith))
-    (λ t e idle. (((gets_kept c s t wish gets e, idle), tt), inr (refl, omega arith)))
+    cut_onto c s (skipped wish b) 0 10 false span skip b asked.answer alone kind
+    (λ t e kept. trim_goes c t 10 wish (kept_span false skip span) b (gets_kept c s t wish gets e.0) kept (omega arith) (omega arith))
+    (λ t e idle. (((gets_kept c s t wish gets e.0, idle), tt), inr (refl, omega arith)))
 ask_keeps c s (Trimming wish span b) asked found sound (gets, alone, more) kind = trim_keeps c s wish span b asked.answer gets alone kind
 ask_keeps c s (Growing wish chunks) asked found sound (gets, idle, more) kind =
-    alloc_onto c s (grown wish chunks asked.answer) 10 found (chunks * 512) (max 512 wish.align) asked.answer idle kind
-    (λ t e none. (((gets_kept c s t wish gets e, none), tt), inr (refl, omega arith)))
+    alloc_onto c s (grown wish chunks asked.answer) 0 10 found None (chunks * 512) (max 512 wish.align) asked.answer idle kind
+    (λ t e none. (((gets_kept c s t wish gets e.0, none), tt), inr (refl, omega arith)))
     (λ t e none why. none)
-    (λ t e span b pages alone. (((gets_kept c s t wish gets e, alone, omega (arith, pages, more)), tt), inr (refl, omega arith)))
+    (λ t e span b pages alone. (((gets_kept c s t wish gets e.0, alone, omega (arith, pages, more)), tt), inr (refl, omega arith)))
 ask_keeps c s (Paring wish span b) asked found sound (gets, alone, more) kind = trim_keeps c s wish span b asked.answer gets alone kind
 ask_keeps c s (Needing wish) asked found sound (gets, idle) kind =
-    alloc_onto c s (needed wish (asked_at (Needing wish) asked)) 6 found (whole_chunks wish.pages) (max 512 wish.align) asked.answer idle kind
+    alloc_onto c s (needed wish (asked_at (Needing wish) asked)) 0 6 found None (whole_chunks wish.pages) (max 512 wish.align) asked.answer idle kind
     (λ t e none. none)
     (λ t e none why. none)
-    (λ t e span b pages alone. grant_goes c t 6 wish span b (gets_kept c s t wish gets e) alone (omega (arith, pages)) (omega arith))
+    (λ t e span b pages alone. grant_goes c t 6 wish span b (gets_kept c s t wish gets e.0) alone (omega (arith, pages)) (omega arith))
 ask_keeps c s (Granting wish span b) asked found sound (gets, alone, more) kind =
-    cut_onto c s (grant_split wish b (asked_at (Granting wish span b) asked)) 4 true span wish.pages b asked.answer alone kind
-    (λ t e kept. commit_goes c t 4 wish (kept_span true wish.pages span) b (gets_kept c s t wish gets e) kept refl (omega arith))
+    cut_onto c s (grant_split wish b (asked_at (Granting wish span b) asked)) 0 4 true span wish.pages b asked.answer alone kind
+    (λ t e kept. commit_goes c t 4 wish (kept_span true wish.pages span) b (gets_kept c s t wish gets e.0) kept refl (omega arith))
     (λ t e idle. idle)
 ask_keeps c s (Committing wish span) asked found sound (gets, alone, pages) kind =
-    commit_onto c s (committed wish span (asked_at (Committing wish span) asked)) 2 span false asked.answer alone kind
-    (λ t e noted. ((gets_kept c s t wish gets e, noted, pages), inr (refl, omega arith)))
+    commit_onto c s (committed wish span (asked_at (Committing wish span) asked)) 0 2 span false asked.answer alone kind
+    (λ t e noted. ((gets_kept c s t wish gets e.0, noted, pages), inr (refl, omega arith)))
     (λ t e idle. idle)
 ask_keeps c s (Merging low high own_low fresh later) asked found sound (pair, then_is) kind = merge_onto c s low high own_low fresh later asked.answer sound pair then_is kind
 ask_keeps c s (Easing span later) asked found sound (flies, then_is) kind = lazy_onto c s span later asked.answer sound flies then_is kind
 ask_keeps c s (Returning span later) asked found sound (has, then_is) kind = return_onto c s span later found asked.answer sound has then_is kind
 ask_keeps c s (Decommitting span later) asked found sound (flies, then_is) kind = decommit_onto c s span later asked.answer sound flies then_is kind
 ask_keeps c s (Forcing span later) asked found sound (flies, then_is) kind = forced_onto c s span later flies then_is
+ask_keeps c s (Cutting resize) asked found sound (flights, offers, trims, narrows) kind = trim_onto c s resize asked.answer sound flights offers narrows kind
+ask_keeps c s (Extending resize) asked found sound (idle, widens) kind = extend_onto c s resize found asked.answer idle widens kind
+ask_keeps c s (Sparing resize span b) asked found sound (widens, alone, at, more) kind = spare_onto c s resize span b asked.answer widens alone at kind
+ask_keeps c s (Backing resize span) asked found sound (widens, alone, at, pages) kind = back_up_onto c s resize span asked.answer widens alone at pages kind
+ask_keeps c s (Joining resize span) asked found sound (widens, alone, at, pages) kind = join_up_onto c s resize span asked.answer sound widens alone kind
 
 heard_keeps : (c : ℕ) (s : Space) (point : AskPoint) (asked : AskFacts) (found : Option ℕ) → Sound s → KnowsAsk (mine c s) point → Heard point (Some asked) →
     Onto c (told point asked) (stages_ask point) (left_ask (flights_of c s) point) (step_of s c (with_found found (done_at point asked)))

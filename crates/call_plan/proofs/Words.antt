@@ -51,23 +51,23 @@ pub use Rattle.space_model.specs.declared.Op.TheVariants.{CutDone, GrowDone}
 pub use Rattle.space_model.specs.declared.Region.{Region}
 pub use Rattle.space_model.specs.declared.State.{State}
 pub use Rattle.space_model.specs.declared.State.TheVariants.{Dirty, Flight}
-pub use Rattle.thread_cache.proofs.Going.{batch_is, cached_is_flat, taken_is_in}
-pub use Rattle.thread_cache.specs.Desks.{addrs_in, has_slot, older_count, rising_from, before_last}
+pub use Rattle.call_plan.proofs.Going.{batch_is, cached_is_flat, taken_is_in}
+pub use Rattle.call_plan.specs.Clients.{gave, freed_hand, gaining, hitting, reclassing, resizing, gain_held, kept, addrs_in, has_slot, older_count, rising_from, before_last}
 unfoldable pub use lib.Count.{ones}
 pub use Rattle.call_plan.specs.Aligned.{IsCacheAligned, MemalignsAreAligned}
 pub use Rattle.call_plan.specs.Bounds.{is_told, is_turn, brings, is_malloc, most_asks, AsksAreFew, IsShort, MallocsAreShort, is_free, is_purge, Stride, Strides, Follows, Walks, emptied_by, emptied_by_all, asks, purges, FreesAreFew, taken_by, taken_of, found_by, found_of, PurgesAreFew}
-pub use Rattle.call_plan.specs.Calls.{IsCall, gets_at, may_hold, wants_place, HasRoomToHold, CallFacts, moment_at, started, gets_ask}
-pub use Rattle.call_plan.specs.Causes.{DoneCause, Empties, TellsTime, TakenBelow, FullCause, Extent, extent_after, extent_of, NothingFits, AllCame, Came, extent, WasGranted, IsNeeded, IsWishOf, RegionCause, GivenCause, CauseOf, AnswersHaveCauses}
-pub use Rattle.call_plan.specs.Desks.{flushes, desk_closed, desk_fed, address_behind, held_region, sharing}
+pub use Rattle.call_plan.specs.Calls.{IsCall, gets_at, gets_then, frees_at, may_hold, one_if, places, HasRoomToHold, CallFacts, moment_at, started, gets_ask}
+pub use Rattle.call_plan.specs.Causes.{DoneCause, Empties, TellsTime, TakenBelow, FullCause, Extent, extent_after, extent_of, NothingFits, AllCame, Came, extent, WasGranted, IsNeeded, IsWishOf, RegionCause, GivenCause, CauseIn, AnswersHaveCauses}
+pub use Rattle.call_plan.specs.Desks.{flushes, taking_place, desk_turned, desk_closed, desk_ended, desk_told, desk_fed, address_behind, held_region, landed_behind, sharing}
 pub use Rattle.call_plan.specs.Items.{lent}
-pub use Rattle.call_plan.specs.Knows.{IsWish, Idle, Gets, is_held, Flies, Droppable, HasOffered, IsThen, IsVisit, HasLeft, in_flight, Knows, KnowsTurn, Alone, is_served, HasPair, Settled, KnowsAsk, Heard, IsChange, is_of_arena}
-pub use Rattle.call_plan.specs.Laws.{Ready, KnowsNext, BatchesKnow, BeginsKnow, Has, RunsEndOnce, unheard, Keeps, stages_then, stages_later, left, left_then, left_visit, stages_visit, left_turn, left_ask, flights_of, Moves, stages, with_found, IsNearer, looks_left, purges_left, stages_ask, WantsStand, stages_turn, stages_change, StepsKeep}
+pub use Rattle.call_plan.specs.Knows.{IsCalm, IsResize, Widens, Narrows, is_held_of, IsWish, Idle, Gets, is_held, Flies, Droppable, HasOffered, IsThen, IsVisit, HasLeft, in_flight, Knows, KnowsTurn, Alone, is_served, HasPair, Settled, KnowsAsk, Heard, IsChange, is_of_arena}
+pub use Rattle.call_plan.specs.Laws.{Ready, KnowsNext, MovesKnow, BatchesKnow, BeginsKnow, Has, unheard, Keeps, stages_then, stages_later, left, left_then, left_visit, stages_visit, left_turn, left_ask, flights_of, Moves, stages, with_found, IsNearer, looks_left, purges_left, stages_ask, WantsStand, stages_turn, stages_change, StepsKeep}
 pub use Rattle.call_plan.specs.Reads.{ended_by}
 pub use Rattle.call_plan.specs.Needs.{Goes, IsPointOrEnd, IsGiving, GivesNone, HasFewAddresses, IsFewAddresses, NamesFreely, named, named_addrs, named_next}
-pub use Rattle.call_plan.specs.Points.{IsSizedPoint, IsSizedNext}
+pub use Rattle.call_plan.specs.Points.{IsSizedPoint, IsSizedNext, IsFewPages}
 pub use Rattle.call_plan.specs.Refusals.{AfterDalloc, AfterRefusal, HoldsExtent, Rests, RefusalsStand}
 pub use Rattle.call_plan.specs.Rooms.{flying, empties, needed_ask, needed_next, needed_turn, room_then, RoomsSuffice}
-pub use Rattle.call_plan.specs.Runs.{page_align, batch_goes, closed, moved, begin_flush, begin_free, begin_get, begin_malloc, begin_memalign, begin_publish, get, share, wish_for, IsRun, begin, Moment, after, run, settle, step_next, begin_stage, small_hit, stage, begin_desk}
+pub use Rattle.call_plan.specs.Runs.{page_align, all_done, all_goes, gives, desk_moved, move_stage, are_large, resize_to, resize_at, begin_resize, begin_realloc, desk_resized, desk_realloced, desk_led, batch_goes, closed, moved, begin_flush, begin_free, begin_get, begin_malloc, begin_memalign, begin_publish, get, share, wish_for, begin, Moment, after, run, settle, step_next, begin_stage, small_hit, stage, begin_desk}
 unfoldable pub use Rattle.call_plan.specs.Runs.{is_alignment}
-pub use Rattle.call_plan.specs.Table.{answered_span, decommitted, eased, forced, put_purged, returned, takes_left, turn_replied, done_at, is_marked, op_at, starved, step, told, want, commit, grant, grow, trim, skip_to, alloc_of, ask_at, chunks_for, whole_chunks, look_on, merged, onward, put_next, visited, took_over, need_chunks, skipped, trimmed, grown, needed, grant_split, committed, WantTurn, visit_gives}
-pub use Rattle.call_plan.specs.Words.{Stops, Leaves, IsAlignment, aligned_for, class_for, Malloc, Memalign, Free, Publish, Flush, Cache, Mine, Held, DeskFacts, most_regions, cached_in, BatchFacts, batch_of, freeing, going, caching, going_with, held_at, is_cacheable, Request, Item, Answered, Finished, Ok, NoSuchArena, TurnPoint, Filling, Looking, Landing, Giving, Finding, Offering, Point, Turns, Asks, Tells, Next, Go, Over, More, Gone, Ends, Nowhere, Stage, AskPoint, Skipping, Trimming, Growing, Paring, Needing, Granting, Committing, Merging, Easing, Returning, Decommitting, Forcing, Alloc, Commit, Split, Answer, Placed, Refuses, Whole, Refuse, Bad, Grown, Space, Span, Why, hit, Visit, Then, Visiting, Taking, Dalloc, Decommit, PurgeLazy, Done, Noted, Kept, Abandoned, Rest, ToDirty, ToMuzzy, ToRetained, Part, Sound, mine, same_span, AnswersTo, Replied, Told, Starved, Batches, Owning, Reply, AskFacts, Wish, Cut, end_of, land_at, Took, Grow, Landed, Regions, align_at, fill_at, lowest_free, max_series, NoMemory, Merge, Purge, FreeForeign, Take, Refused, BadAnswer, NotHeld, Change, Visits, Changing, NoArena, Nothing, Owned, Joined, Op, Advancing, Making, Resetting, Destroying, Dooming, Publishing, pages_at, Doomed, Setting, Taken}
+pub use Rattle.call_plan.specs.Table.{own_span, lacks, behind, alloc_behind, back, spare, move, extend, got, narrowed, extended, spared, backed, widened, answered_span, decommitted, eased, forced, put_purged, returned, takes_left, turn_replied, done_at, is_marked, op_at, starved, step, told, want, commit, grant, grow, trim, skip_to, alloc_of, ask_at, chunks_for, whole_chunks, look_on, merged, onward, put_next, visited, took_over, need_chunks, skipped, trimmed, grown, needed, grant_split, committed, WantTurn, visit_gives}
+pub use Rattle.call_plan.specs.Words.{Realloc, Resize, Moving, Widening, Narrowing, Cutting, Extending, Sparing, Backing, Joining, Move, Stops, Leaves, IsAlignment, aligned_for, class_for, Malloc, Memalign, Free, Publish, Flush, Cache, Mine, Held, DeskFacts, most_regions, cached_in, BatchFacts, batch_of, freeing, going, caching, going_with, held_at, is_cacheable, Request, Item, Answered, Finished, Ok, NoSuchArena, TurnPoint, Filling, Looking, Landing, Giving, Finding, Offering, Point, Turns, Asks, Tells, Next, Go, Over, More, Gone, Ends, Nowhere, Stage, AskPoint, Skipping, Trimming, Growing, Paring, Needing, Granting, Committing, Merging, Easing, Returning, Decommitting, Forcing, Alloc, Commit, Split, Answer, Placed, Refuses, Whole, Refuse, Bad, Grown, Space, Span, Why, hit, Visit, Then, Visiting, Taking, Dalloc, Decommit, PurgeLazy, Done, Noted, Kept, Abandoned, Rest, ToDirty, ToMuzzy, ToRetained, Part, Sound, mine, same_span, AnswersTo, Replied, Told, Starved, Batches, Owning, Reply, AskFacts, Wish, Cut, end_of, land_at, Took, Grow, Landed, Regions, align_at, fill_at, lowest_free, max_series, NoMemory, Merge, Purge, FreeForeign, Take, Refused, BadAnswer, NotHeld, Change, Visits, Changing, NoArena, Nothing, Owned, Joined, Op, Advancing, Making, Resetting, Destroying, Dooming, Publishing, pages_at, Doomed, Setting, Taken}

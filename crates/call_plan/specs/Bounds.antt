@@ -3,7 +3,7 @@ use Rattle.std.specs.Prelude.{◌≡◌, ℕ, ◌+◌, ◌*◌, ◌≤◌, Bool,
 use Rattle.space_model.specs.declared.Op.TheVariants.{Back}
 use Rattle.space_model.specs.Part.{is_listed, listed}
 use Rattle.space_model.specs.Purging.{count_listed}
-use Rattle.call_plan.specs.Words.{Request, Malloc, Memalign, Free, FreeForeign, Flush, Cache, Item, Replied, Told, Answered, Giving, Taking, Turns, Next, Go, Ends, NextFlight, Purge, Taken, Abandoned, Doomed, Rest, Space, Sound, mine, DeskFacts}
+use Rattle.call_plan.specs.Words.{Request, Malloc, Memalign, Free, FreeForeign, Realloc, Flush, Cache, MallocIn, FreeIn, FlushCache, EndCache, Item, Replied, Told, Answered, Giving, Taking, Turns, Next, Go, Ends, NextFlight, Purge, Taken, Abandoned, Doomed, Rest, Space, Sound, mine, DeskFacts}
 use Rattle.call_plan.specs.Table.{want}
 use Rattle.call_plan.specs.Runs.{Moment, after, begin, run, step_next}
 use Rattle.call_plan.specs.Knows.{Knows}
@@ -29,6 +29,7 @@ pub record IsShort (items : List Item) : Type 0 where
 abbrev pub is_malloc : Request → Bool
 is_malloc (Malloc size) = true
 is_malloc (Memalign align size) = true
+is_malloc (MallocIn slot size) = true
 is_malloc request = false
 
 -- every malloc that ends was short
@@ -52,6 +53,8 @@ brings item = 0
 abbrev pub most_asks : Request → ℕ
 most_asks (Malloc size) = 5
 most_asks (Memalign align size) = 5
+most_asks (Realloc addr size) = 9
+most_asks (MallocIn slot size) = 5
 most_asks request = 0
 
 -- every call that ends has made few asks
@@ -67,6 +70,9 @@ is_free (Free addr) = true
 is_free (FreeForeign addr arena) = true
 is_free Flush = true
 is_free (Cache on) = true
+is_free (FreeIn slot addr) = true
+is_free (FlushCache slot) = true
+is_free (EndCache slot) = true
 is_free request = false
 
 -- A stride of a call: what came of its need, and the space of the arena before that and after it.

@@ -1,6 +1,6 @@
 -- A call as contracts see it.
-use Rattle.std.specs.Prelude.{◌≡◌, ◌≤◌, ℕ, Bool, true, false, ◌||◌, Option, Some, is_some}
-use Rattle.call_plan.specs.Words.{Request, Malloc, Memalign, Free, FreeForeign, Publish, Take, Region, Finished, Ok, TurnPoint, Filling, Looking, Landing, Owning, AskPoint, Merging, Easing, Returning, Decommitting, Forcing, Point, Turns, Asks, Tells, Next, Go, Ends, Stage, Held, DeskFacts}
+use Rattle.std.specs.Prelude.{◌≤◌, ◌+◌, ℕ, Bool, true, false, ◌||◌, Option, Some, is_some, if◌then◌else◌, not}
+use Rattle.call_plan.specs.Words.{Request, Malloc, Memalign, Free, FreeForeign, Publish, Take, Realloc, MallocIn, FreeIn, NewCache, Region, Finished, Ok, Then, Moving, TurnPoint, Filling, Looking, Landing, Finding, Offering, Owning, Widening, Narrowing, AskPoint, Merging, Easing, Returning, Decommitting, Forcing, Point, Turns, Asks, Tells, Next, Go, Ends, Stage, DeskFacts}
 use Rattle.call_plan.specs.Desks.{flushes}
 use Rattle.call_plan.specs.Points.{IsSizedNext}
 use Rattle.call_plan.specs.Needs.{IsPointOrEnd, named}
@@ -35,21 +35,31 @@ IsCall at = IsPointOrEnd at.next × IsSizedNext at.next
 
 -- ---- room for a region that the client comes to hold
 
--- whether a region may come of a point: it lands, is free or is taken over
+-- whether a region may come of what follows
+abbrev pub gets_then : Then → Bool
+gets_then (Moving class) = true
+gets_then later = false
+
+-- whether a region may come of a point and stay: it lands, is free, is taken over or resized
 abbrev pub gets_turn : TurnPoint → Bool
 gets_turn (Filling wish count) = true
 gets_turn (Looking wish) = true
 gets_turn (Landing wish span) = true
-gets_turn (Owning addr frees past) = true
+gets_turn (Owning addr frees past) = not frees
+gets_turn (Finding own tries fresh later) = gets_then later
+gets_turn (Offering span later) = gets_then later
+gets_turn (Widening resize) = true
+gets_turn (Narrowing resize) = true
 gets_turn point = false
 
--- whether a region may come of a point of an ask: an extent is got there, and none is merged, purged or given back
+-- whether a region may come of a point of an ask: an extent is got there, or a region resized, and none is merged, purged or given
+-- back, unless a region is got then
 abbrev pub gets_ask : AskPoint → Bool
-gets_ask (Merging low high own_low fresh later) = false
-gets_ask (Easing span later) = false
-gets_ask (Returning span later) = false
-gets_ask (Decommitting span later) = false
-gets_ask (Forcing span later) = false
+gets_ask (Merging low high own_low fresh later) = gets_then later
+gets_ask (Easing span later) = gets_then later
+gets_ask (Returning span later) = gets_then later
+gets_ask (Decommitting span later) = gets_then later
+gets_ask (Forcing span later) = gets_then later
 gets_ask point = true
 
 -- whether a region may come of a point
@@ -58,18 +68,27 @@ gets_at (Turns point) = gets_turn point
 gets_at (Asks point heard) = gets_ask point
 gets_at (Tells span is_committed) = false
 
--- whether the client may come to hold a region where its call goes: one that it gets, or the one in hand, held again
-abbrev pub wants_place : Option Held → Next → Bool
-wants_place hand (Go point) = is_some hand || gets_at point
-wants_place hand (Ends (Ok (Region addr class))) = true
-wants_place hand (Ends (Ok Finished)) = false
-wants_place hand (Ends answer) = is_some hand
-wants_place hand next = false
+-- whether the region that comes of a point is freed
+abbrev pub frees_at : Point → Bool
+frees_at (Turns (Owning addr frees past)) = frees
+frees_at point = false
 
--- while the call is open, there is room for a region that its client may come to hold
-abbrev pub HasRoomToHold : Option Held → ℕ → Next → Type 0
-HasRoomToHold hand room (Go point) = wants_place hand (Go point) ≡ true → 1 ≤ room
-HasRoomToHold hand room next = Unit {0}
+-- 1 for true, 0 for false
+abbrev pub one_if : Bool → ℕ
+one_if v = if v then 1 else 0
+
+-- how many regions the client may come to hold where its call goes: the one in hand, held again, and one that it gets or gained
+abbrev pub places : DeskFacts → Next → ℕ
+places desk (Go point) = one_if (is_some desk.hand || frees_at point) + one_if (is_some desk.gained || gets_at point)
+places desk (Ends (Ok (Region addr class))) = 1
+places desk (Ends (Ok Finished)) = one_if (is_some desk.gained)
+places desk (Ends answer) = one_if (is_some desk.hand) + one_if (is_some desk.gained)
+places desk next = 0
+
+-- while the call is open, there is room for the regions that its client may come to hold
+abbrev pub HasRoomToHold : DeskFacts → ℕ → Next → Type 0
+HasRoomToHold desk room (Go point) = places desk (Go point) ≤ room
+HasRoomToHold desk room next = Unit {0}
 
 -- whether a client may come to hold a region by a request: one that it gets, or gave away, where memory is wanting
 abbrev pub may_hold : Request → Bool
@@ -79,8 +98,16 @@ may_hold (Free addr) = true
 may_hold (FreeForeign addr arena) = true
 may_hold (Publish addr) = true
 may_hold (Take addr arena) = true
+may_hold (Realloc addr size) = true
+may_hold (MallocIn slot size) = true
+may_hold (FreeIn slot addr) = true
 may_hold request = false
 
--- whether the start of a request takes memory: to make room for such a region, or to name those that go back
+-- whether a request makes an explicit cache
+abbrev pub makes_cache : Request → Bool
+makes_cache NewCache = true
+makes_cache request = false
+
+-- whether the start of a request takes memory: to make room for such regions, to name those that go back, or for an explicit cache
 abbrev pub takes_memory : Request → DeskFacts → Bool
-takes_memory request desk = may_hold request || flushes request || is_some desk.hand
+takes_memory request desk = may_hold request || flushes request || is_some desk.hand || is_some desk.gained || makes_cache request

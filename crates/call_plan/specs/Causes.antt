@@ -1,8 +1,10 @@
 -- Why each answer of a call comes, by what the call was fed.
 use Rattle.std.specs.Prelude.{◌≡◌, ℕ, ◌-◌, ◌<◌, ◌≤◌, ◌^◌, ◌⊎◌, max, replicate, Bool, true, false, List, [], ◌∷◌, ◌++◌, fold, Contains, Option, None, Some, option_map}
 use Rattle.space_model.specs.Step.{why_not}
-use Rattle.call_plan.specs.Words.{Request, Malloc, Memalign, Free, FreeForeign, Publish, Take, PurgeAll, Decay, Time, Reset, Destroy, Create, Bind, HookBox, GrowLimit, Item, Replied, Told, Starved, Given, Region, Finished, Arena, Limits, Answered, Ok, Refused, BadAnswer, TooLarge, BadAlign, NotHeld, NoSuchArena, Busy, NoMemory, ArenasFull, Automatic, Wish, Next, Go, Ends}
-use Rattle.call_plan.specs.Words.{Ask, Alloc, Commit, Split, Placed, Refuses, NoArena, Nothing, Noted, Took, Grow, Cut, Whole, Bad, Grown, Landed, Regions, LimitsAre, Owned, InUse, Space, Span, Why, Sound, AskFacts, Held, DeskFacts, IsAlignment, aligned_for, class_for, held_at, hit}
+use Rattle.call_plan.specs.Words.{Request, Malloc, Memalign, Free, FreeForeign, Publish, Take, PurgeAll, Decay, Time, Reset, Destroy, Create, Bind, HookBox, GrowLimit, Realloc, MallocIn, NewCache, Item, Replied, Told, Starved, Given, Region, Finished, Arena, Limits, Slot, Answered, Ok, Refused, BadAnswer, TooLarge, BadAlign, NotHeld, NoSuchArena, Busy, NoMemory, ArenasFull, Automatic, NoCache, CachesFull, Wish, Next, Go, Ends}
+use Rattle.call_plan.specs.Words.{Ask, Alloc, Commit, Split, Placed, Refuses, NoArena, Nothing, Noted, Took, Grow, Cut, Whole, Bad, Grown, Landed, Regions, LimitsAre, Owned, InUse, Space, Span, Why, Sound, AskFacts, Held, DeskFacts, IsAlignment, aligned_for, class_for, free_slot, held_at, hit}
+use Rattle.call_plan.specs.Clients.{has_cache}
+use Rattle.call_plan.specs.Desks.{meant, ready, slot_of}
 use Rattle.call_plan.specs.Table.{alloc_of, want, whole_chunks}
 use Rattle.call_plan.specs.Runs.{Moment, after, begin, page_align, run, small_hit, wish_for}
 use Rattle.call_plan.specs.Laws.{Moves}
@@ -62,24 +64,25 @@ pub record WasGranted (wish : Wish) (items : List Item) (span : Span) : Type 0 w
   pub replied : Contains items (Replied (Grown span is_committed))
   pub more : wish.pages < span.pages
 
--- an ask is needed after the items: an alloc of just as many chunks where no extent served, a split of what it granted, and
+-- an ask is needed after the items: an alloc of just as many chunks, wherever they are, where no extent served, a split of what it granted, and
 -- a commit of an extent that isn't committed
 abbrev pub IsNeeded : Wish → List Item → Ask → Type 0
-IsNeeded wish items (Alloc is_committed at pages align) = (pages ≡ whole_chunks wish.pages) × NothingFits items
+IsNeeded wish items (Alloc is_committed at pages align) = (at ≡ None) × (pages ≡ whole_chunks wish.pages) × NothingFits items
 IsNeeded wish items (Split span left) = (left ≡ wish.pages) × WasGranted wish items span
 IsNeeded wish items (Commit span) = extent_of items ≡ Some (extent span false)
 IsNeeded wish items ask = ⊥
 
 -- ---- the causes
 
--- the wish is for regions of a class, at an alignment in pages
-abbrev pub IsWishFor : ℕ → ℕ → Wish → Type 0
-IsWishFor class align wish = wish ≡ wish_for class align wish.count
+-- the wish is for regions of a class, at an alignment in pages, of which one takes the place of the one in hand or none does
+abbrev pub IsWishFor : Bool → ℕ → ℕ → Wish → Type 0
+IsWishFor moves class align wish = wish ≡ wish_for moves class align wish.count
 
 -- the wish is that of the request
 abbrev pub IsWishOf : Request → Wish → Type 0
-IsWishOf (Malloc size) wish = IsWishFor (class_for size) 1 wish
-IsWishOf (Memalign align size) wish = IsWishFor (aligned_for size align) (page_align align) wish
+IsWishOf (Malloc size) wish = IsWishFor false (class_for size) 1 wish
+IsWishOf (Memalign align size) wish = IsWishFor false (aligned_for size align) (page_align align) wish
+IsWishOf (Realloc addr size) wish = IsWishFor true (class_for size) 1 wish
 IsWishOf request wish = ⊥
 
 -- An ask of this call was refused, and it was needed after what the call had been fed.
@@ -116,10 +119,16 @@ GotCause found items addr =
     ⊎ ((count : ℕ) × Contains items (Replied (Landed addr count)))
     ⊎ ((others : List ℕ) × Contains items (Replied (Regions (addr ∷ others))))
 
--- a region is of the class of the request and was got, or was taken over
+-- a region of a class is the one that the client held there, or takes its place and was got
+abbrev pub ResizedCause : DeskFacts → ℕ → List Item → ℕ → ℕ → Type 0
+ResizedCause desk at items addr class =
+    ((region : Held) × (held_at at desk ≡ Some region) × (addr ≡ region.addr)) ⊎ GotCause (hit class desk) items addr
+
+-- a region is of the class of the request and was got or resized, or was taken over
 abbrev pub RegionCause : DeskFacts → Request → List Item → ℕ → ℕ → Type 0
 RegionCause desk (Malloc size) items addr class = (class ≡ class_for size) × GotCause (hit class desk) items addr
 RegionCause desk (Memalign align size) items addr class = (class ≡ aligned_for size align) × GotCause (small_hit class desk) items addr
+RegionCause desk (Realloc at size) items addr class = (class ≡ class_for size) × ResizedCause desk at items addr class
 RegionCause desk (Take at arena) items addr class = (addr ≡ at) × Contains items (Replied (Owned class))
 RegionCause desk request items addr class = ⊥
 
@@ -128,7 +137,10 @@ abbrev pub DoneCause : Request → Type 0
 DoneCause (Malloc size) = ⊥
 DoneCause (Memalign align size) = ⊥
 DoneCause (Take at arena) = ⊥
+DoneCause (Realloc at size) = ⊥
 DoneCause (Create box_no dirty_ms muzzy_ms now) = ⊥
+DoneCause (MallocIn slot size) = ⊥
+DoneCause NewCache = ⊥
 DoneCause request = Unit {0}
 
 -- the request makes an arena
@@ -159,17 +171,24 @@ abbrev pub TellsTime : Request → Type 0
 TellsTime (Decay arena now) = Unit {0}
 TellsTime request = ⊥
 
+-- the request makes an explicit cache
+abbrev pub MakesCache : Request → Type 0
+MakesCache NewCache = Unit {0}
+MakesCache request = ⊥
+
 -- what a call gave has its cause
 abbrev pub GivenCause : DeskFacts → Request → List Item → Given → Type 0
 GivenCause desk request items (Region addr class) = RegionCause desk request items addr class
 GivenCause desk request items Finished = DoneCause request
 GivenCause desk request items (Arena index) = ArenaCause request items index
+GivenCause desk request items (Slot slot) = MakesCache request × (free_slot desk.set ≡ Some slot)
 GivenCause desk request items (Limits dirty muzzy) = TellsTime request × Contains items (Replied (LimitsAre dirty muzzy))
 
 -- the client held no region at the address of the request, or none was published there
 abbrev pub NotHeldCause : DeskFacts → Request → List Item → ℕ → Type 0
 NotHeldCause desk (Free at) items addr = (addr ≡ at) × (held_at at desk ≡ None)
 NotHeldCause desk (Publish at) items addr = (addr ≡ at) × (held_at at desk ≡ None)
+NotHeldCause desk (Realloc at size) items addr = (addr ≡ at) × (held_at at desk ≡ None)
 NotHeldCause desk (Take at arena) items addr = (addr ≡ at) × Contains items (Replied Nothing)
 NotHeldCause desk (FreeForeign at arena) items addr = (addr ≡ at) × Contains items (Replied Nothing)
 NotHeldCause desk request items addr = ⊥
@@ -178,6 +197,7 @@ NotHeldCause desk request items addr = ⊥
 abbrev pub TooLargeCause : Request → Type 0
 TooLargeCause (Malloc size) = 2 ^ 35 < size
 TooLargeCause (Memalign align size) = IsAlignment align × (2 ^ 35 < size)
+TooLargeCause (Realloc at size) = 2 ^ 35 < size
 TooLargeCause request = ⊥
 
 -- the alignment is none
@@ -205,19 +225,27 @@ Names (HookBox arena box_no) index = index ≡ arena
 Names (GrowLimit arena chunks) index = index ≡ arena
 Names request index = ⊥
 
--- why a request of a client that had this at its start had its answer after these items
+-- why a request of a client whose cache is the one that it uses had its answer after these items, by what the client had at its start
+abbrev pub CauseIn : DeskFacts → Request → List Item → Answered → Type 0
+CauseIn desk request items (Ok given) = GivenCause desk request items given
+CauseIn desk request items (Refused asked) = RefusedCause request items asked
+CauseIn desk request items (BadAnswer span why) = BadCause request items span why
+CauseIn desk request items TooLarge = TooLargeCause request
+CauseIn desk request items BadAlign = BadAlignCause request
+CauseIn desk request items (NotHeld addr) = NotHeldCause desk request items addr
+CauseIn desk request items (NoSuchArena index) = (Names request index × (32 ≤ index)) ⊎ Contains items (Replied NoArena)
+CauseIn desk request items (Busy others flights threads) = Empties request × Contains items (Replied (InUse others flights threads))
+CauseIn desk request items NoMemory = Contains items Starved
+CauseIn desk request items ArenasFull = FullCause request items
+CauseIn desk request items Automatic = AutomaticCause request
+CauseIn desk request items (NoCache slot) = slot_of request ≡ Some slot
+CauseIn desk request items CachesFull = MakesCache request × (free_slot desk.set ≡ None)
+
+-- why a request of a client that had this at its start had its answer after these items: one that uses an explicit cache is as one of
+-- the client's own cache, in whose place that is, unless the client doesn't have it
 abbrev pub CauseOf : DeskFacts → Request → List Item → Answered → Type 0
-CauseOf desk request items (Ok given) = GivenCause desk request items given
-CauseOf desk request items (Refused asked) = RefusedCause request items asked
-CauseOf desk request items (BadAnswer span why) = BadCause request items span why
-CauseOf desk request items TooLarge = TooLargeCause request
-CauseOf desk request items BadAlign = BadAlignCause request
-CauseOf desk request items (NotHeld addr) = NotHeldCause desk request items addr
-CauseOf desk request items (NoSuchArena index) = (Names request index × (32 ≤ index)) ⊎ Contains items (Replied NoArena)
-CauseOf desk request items (Busy others flights threads) = Empties request × Contains items (Replied (InUse others flights threads))
-CauseOf desk request items NoMemory = Contains items Starved
-CauseOf desk request items ArenasFull = FullCause request items
-CauseOf desk request items Automatic = AutomaticCause request
+CauseOf desk request items (NoCache slot) = (slot_of request ≡ Some slot) × (has_cache slot desk ≡ false)
+CauseOf desk request items answer = CauseIn (ready request desk) (meant request desk) items answer
 
 -- every answer has its cause among what this very call was fed
 abbrev pub AnswersHaveCauses : Type 0

@@ -1,6 +1,6 @@
 -- What a client's call knows of the space of its arena at each point. It is said of what the client owns there, and of
 -- nothing else, so no step of another client changes it.
-use Rattle.std.specs.Prelude.{◌≡◌, ℕ, ◌+◌, ◌<◌, ◌≤◌, Bool, true, false, ◌==◌, ◌||◌, List, [], ◌∷◌, length, Option, None, Some, find}
+use Rattle.std.specs.Prelude.{◌≡◌, ℕ, ◌+◌, ◌<◌, ◌≤◌, Bool, true, false, ◌==◌, ◌||◌, ◌&&◌, List, [], ◌∷◌, length, Option, None, Some, find}
 use Rattle.std.specs.Int.{is_power_of_two}
 use Rattle.std.specs.List.{list_any, list_all}
 use Rattle.space_model.specs.declared.Offered.{Offered}
@@ -11,8 +11,8 @@ use Rattle.space_model.specs.Purging.{is_purgeable}
 use Rattle.space_model.specs.Settings.{setting_stands}
 use Rattle.space_model.specs.Step.{may_merge, rises_from}
 use Rattle.call_plan.specs.Words.{ToDirty, ToRetained, Setting, MakeLive, Part, Span, Mine, AskFacts, pages_at, same_span, end_of, most_regions, AnswersTo}
-use Rattle.call_plan.specs.Words.{Wish, Visit, Then, Batches, Visiting, Change, Visits, TurnPoint, Filling, Looking, Landing, Giving, Finding, Taking, Offering, Advancing, Changing, Making, Resetting, Destroying, Dooming, Publishing, Owning, AskPoint, Skipping, Trimming, Growing, Paring, Needing, Granting, Committing, Merging, Easing, Returning, Decommitting, Forcing, Point, Turns, Asks, Tells}
-use Rattle.call_plan.specs.Table.{ask_at, chunks_for}
+use Rattle.call_plan.specs.Words.{Wish, Resize, Visit, Then, Batches, Visiting, Moving, Change, Visits, TurnPoint, Filling, Looking, Landing, Giving, Finding, Taking, Offering, Advancing, Changing, Making, Resetting, Destroying, Dooming, Publishing, Owning, Widening, Narrowing, AskPoint, Skipping, Trimming, Growing, Paring, Needing, Granting, Committing, Merging, Easing, Returning, Decommitting, Forcing, Cutting, Extending, Sparing, Backing, Joining, Point, Turns, Asks, Tells}
+use Rattle.call_plan.specs.Table.{ask_at, behind, chunks_for, lacks}
 
 -- what a call can wish for: regions of a class in an extent of its pages, at an alignment that is a power of two
 pub record IsWish (wish : Wish) : Type 0 where
@@ -30,12 +30,20 @@ is_served m = m.bound || list_any (λ _. true) m.regions
 abbrev pub is_held : Mine → ℕ → Bool
 is_held m addr = list_any (λ (r : Region). r.addr == addr) m.regions
 
+-- whether the client holds a region of the class at the address
+abbrev pub is_held_of : Mine → ℕ → ℕ → Bool
+is_held_of m addr class = list_any (λ (r : Region). r.addr == addr && r.class == class) m.regions
+
 -- ---- what is in flight
 
--- The client has nothing in flight and nothing offered.
+-- nothing is offered of the client, and it is cutting no region
+abbrev pub IsCalm : Mine → Type 0
+IsCalm m = (m.offers ≡ []) × (m.trims ≡ false)
+
+-- The client has nothing in flight and nothing offered, and is cutting no region.
 pub record Idle (m : Mine) : Type 0 where
   pub flights : m.flights ≡ []
-  pub offers : m.offers ≡ []
+  pub calm : IsCalm m
 
 -- The client has one extent in flight and no other, with this span and committed or not.
 pub record Alone (m : Mine) (span : Span) (is_committed : Bool) : Type 0 where
@@ -43,7 +51,7 @@ pub record Alone (m : Mine) (span : Span) (is_committed : Bool) : Type 0 where
   pub flights : m.flights ≡ part ∷ []
   pub spans : part.span ≡ span
   pub committed : part.committed ≡ is_committed
-  pub offers : m.offers ≡ []
+  pub calm : IsCalm m
 
 -- the client's extent in flight with this span
 abbrev pub in_flight : Span → List Part → Option Part
@@ -54,7 +62,7 @@ pub record Flies (m : Mine) (span : Span) (P : Part → Type 0) : Type 0 where
   pub part : Part
   pub found : in_flight span m.flights ≡ Some part
   pub is : P part
-  pub offers : m.offers ≡ []
+  pub calm : IsCalm m
 
 -- an extent that was purged belongs to the dirty ones no more
 abbrev pub Settled : Bool → Part → Type 0
@@ -75,7 +83,7 @@ pub record HasPair (m : Mine) (low high : Span) (fresh : Bool) : Type 0 where
   pub side_by_side : end_of low ≡ high.first
   pub low_settled : Settled fresh low_part
   pub high_settled : Settled fresh high_part
-  pub offers : m.offers ≡ []
+  pub calm : IsCalm m
 
 -- The client has offered a committed extent with this span, and nothing else.
 pub record HasOffered (m : Mine) (span : Span) : Type 0 where
@@ -83,6 +91,7 @@ pub record HasOffered (m : Mine) (span : Span) : Type 0 where
   pub offers : m.offers ≡ offer ∷ []
   pub spans : offer.span ≡ span
   pub committed : offer.committed ≡ true
+  pub trims : m.trims ≡ false
 
 -- ---- what is known beside
 
@@ -90,6 +99,23 @@ pub record HasOffered (m : Mine) (span : Span) : Type 0 where
 pub record Gets (m : Mine) (wish : Wish) : Type 0 where
   pub is : IsWish wish
   pub served : is_served m ≡ true
+
+-- A region that is resized is the client's, large, and has other pages than the large class that it is to have.
+pub record IsResize (m : Mine) (resize : Resize) : Type 0 where
+  pub class : ℕ
+  pub held : is_held_of m resize.addr class ≡ true
+  pub large : 36 ≤ class
+  pub pages : resize.pages ≡ pages_at class
+  pub to_large : 36 ≤ resize.class
+  pub below : resize.class < 121
+
+-- it is to have more pages than it has
+abbrev pub Widens : Mine → Resize → Type 0
+Widens m resize = IsResize m resize × (resize.pages < pages_at resize.class)
+
+-- it is to have fewer
+abbrev pub Narrows : Mine → Resize → Type 0
+Narrows m resize = IsResize m resize × (pages_at resize.class < resize.pages)
 
 -- The client holds a region at each of the addresses, which rise.
 pub record GivesBack (m : Mine) (addrs : List ℕ) : Type 0 where
@@ -106,6 +132,7 @@ IsVisit visit = is_purgeable visit.rest ≡ true
 abbrev pub IsThen : Then → Type 0
 IsThen Batches = Unit {0}
 IsThen (Visiting visit left) = IsVisit visit
+IsThen (Moving class) = class < 121
 
 -- what follows once a setting is changed is in order
 abbrev pub IsChange : Change → Type 0
@@ -141,6 +168,8 @@ KnowsTurn m (Destroying cached) = Idle m × (cached ≤ length m.regions)
 KnowsTurn m Dooming = Idle m × (m.dying ≡ true)
 KnowsTurn m (Publishing addr) = Idle m × (is_held m addr ≡ true)
 KnowsTurn m (Owning addr frees past) = Idle m
+KnowsTurn m (Widening resize) = Idle m × Widens m resize
+KnowsTurn m (Narrowing resize) = Idle m × Narrows m resize
 
 -- what a call knows at a point at which it waits for an ask
 abbrev pub KnowsAsk : Mine → AskPoint → Type 0
@@ -157,6 +186,12 @@ KnowsAsk m (Easing span later) = Flies m span (λ p. rest_of p.state ≡ ToDirty
 KnowsAsk m (Returning span later) = HasOffered m span × IsThen later
 KnowsAsk m (Decommitting span later) = Flies m span (λ p. (p.committed ≡ true) × (rest_of p.state ≡ ToRetained)) × IsThen later
 KnowsAsk m (Forcing span later) = Flies m span (λ p. rest_of p.state ≡ ToRetained) × IsThen later
+KnowsAsk m (Cutting resize) = (m.flights ≡ []) × (m.offers ≡ []) × (m.trims ≡ true) × Narrows m resize
+KnowsAsk m (Extending resize) = Idle m × Widens m resize
+KnowsAsk m (Sparing resize span is_committed) =
+    Widens m resize × Alone m span is_committed × (span.first ≡ behind resize) × (lacks resize < span.pages)
+KnowsAsk m (Backing resize span) = Widens m resize × Alone m span false × (span.first ≡ behind resize) × (span.pages ≡ lacks resize)
+KnowsAsk m (Joining resize span) = Widens m resize × Alone m span true × (span.first ≡ behind resize) × (span.pages ≡ lacks resize)
 
 -- an answer that is there is one to the ask of the point, of its kind
 abbrev pub Heard : AskPoint → Option AskFacts → Type 0

@@ -1,14 +1,14 @@
 -- What is always true between a call and the space of its arena.
-use Rattle.std.specs.Prelude.{◌≡◌, List, [], ◌++◌, ℕ, ◌+◌, ◌-◌, ◌*◌, ◌<◌, ◌≤◌, ◌==◌, ◌⊎◌, true, length, Contains, Some, Bool, Option, None, if◌then◌else◌, flat_map}
+use Rattle.std.specs.Prelude.{◌≡◌, ℕ, ◌+◌, ◌-◌, ◌*◌, ◌<◌, ◌≤◌, ◌==◌, ◌⊎◌, true, length, Contains, Some, Bool, Option, None, if◌then◌else◌, flat_map}
 use Rattle.space_model.specs.declared.Op.TheVariants.{GrowDone, OfferDone}
 use Rattle.space_model.specs.Step.{step_of, op_stands}
 use Rattle.space_model.specs.Settings.{is_decay_time}
 use Rattle.space_model.specs.Purging.{is_purgeable}
-use Rattle.call_plan.specs.Words.{Request, Time, Create, HookBox, GrowLimit as SetGrowLimit, Item, Replied, Told, Starved, Answered, Op, Space, Sound, Mine, mine, AskFacts, Held, DeskFacts, max_series, AnswersTo, cached_of, held_at, Rest, ToMuzzy}
-use Rattle.call_plan.specs.Words.{Visit, Then, Batches, Visiting, Change, Stops, Visits, Leaves, TurnPoint, Filling, Looking, Landing, Giving, Finding, Taking, Offering, Advancing, Changing, Making, Resetting, Destroying, Dooming, AskPoint, Skipping, Trimming, Growing, Paring, Needing, Granting, Committing, Merging, Easing, Returning, Decommitting, Forcing, Point, Turns, Asks, Tells, Next, Go, Over, More, Ends, Nowhere, Stage}
+use Rattle.call_plan.specs.Words.{Request, Time, Create, HookBox, GrowLimit as SetGrowLimit, Item, Replied, Told, Starved, Op, Space, Sound, Mine, mine, AskFacts, Held, DeskFacts, max_series, AnswersTo, cached_of, held_at, Rest, ToMuzzy}
+use Rattle.call_plan.specs.Words.{Visit, Then, Batches, Visiting, Moving, Change, Stops, Visits, Leaves, TurnPoint, Filling, Looking, Landing, Giving, Finding, Taking, Offering, Advancing, Changing, Making, Resetting, Destroying, Dooming, Widening, Narrowing, AskPoint, Skipping, Trimming, Growing, Paring, Needing, Granting, Committing, Merging, Easing, Returning, Decommitting, Forcing, Cutting, Extending, Sparing, Backing, Joining, Point, Turns, Asks, Tells, Next, Go, Over, More, Move, Ends, Nowhere, Stage}
 use Rattle.call_plan.specs.Table.{Want, WantTurn, WantAsk, want, step, is_marked}
-use Rattle.call_plan.specs.Knows.{Idle, Knows, is_held, is_served}
-use Rattle.call_plan.specs.Runs.{IsRun, begin_stage, settle}
+use Rattle.call_plan.specs.Knows.{Idle, Knows, is_held_of, is_served}
+use Rattle.call_plan.specs.Runs.{begin_stage, desk_led, settle}
 
 -- ---- what may be fed
 
@@ -34,7 +34,8 @@ Moves c s want item t = ⊥
 
 -- ---- how far a call is from its end
 
--- how many times it still learns how much there is to do: how many extents a giving back emptied, or a visit has
+-- how many times it still learns how much there is to do: how many extents a giving back emptied, or a visit has, or whether a
+-- region is resized where it is
 abbrev pub stages_list : Rest → Option ℕ → ℕ
 stages_list ToMuzzy (Some dirty) = 2
 stages_list rest other = 0
@@ -47,6 +48,7 @@ stages_later visit = stages_list visit.rest visit.other
 abbrev pub stages_then : Then → ℕ
 stages_then Batches = 0
 stages_then (Visiting visit left) = stages_later visit
+stages_then (Moving class) = 2
 
 -- those of what follows once a setting is changed
 abbrev pub stages_change : Change → ℕ
@@ -71,6 +73,8 @@ stages_turn (Changing setting change) = stages_change change
 stages_turn (Making index setting) = 31 - index
 stages_turn (Resetting cached) = 2
 stages_turn (Destroying cached) = 1
+stages_turn (Widening resize) = 3
+stages_turn (Narrowing resize) = 3
 stages_turn point = 0
 
 -- those from a point of an ask on
@@ -80,6 +84,11 @@ stages_ask (Easing span later) = stages_then later
 stages_ask (Returning span later) = stages_then later
 stages_ask (Decommitting span later) = stages_then later
 stages_ask (Forcing span later) = stages_then later
+stages_ask (Cutting resize) = 2
+stages_ask (Extending resize) = 2
+stages_ask (Sparing resize span is_committed) = 2
+stages_ask (Backing resize span) = 2
+stages_ask (Joining resize span) = 2
 stages_ask point = 0
 
 -- those from a point on
@@ -100,6 +109,7 @@ purges_left fresh = if fresh then 16 else 0
 abbrev pub left_then : Then → ℕ
 left_then Batches = 0
 left_then (Visiting visit left) = 30 * left
+left_then (Moving class) = 0
 
 -- those of the extents of a visit, once it is known how many are left
 abbrev pub left_visit : Option ℕ → ℕ
@@ -131,6 +141,11 @@ left_ask flights (Easing span later) = 30 * (flights - 1) + 15 + left_then later
 left_ask flights (Returning span later) = 30 * flights + 12 + left_then later
 left_ask flights (Decommitting span later) = 30 * (flights - 1) + 10 + left_then later
 left_ask flights (Forcing span later) = 30 * (flights - 1) + 8 + left_then later
+left_ask flights (Cutting resize) = 0
+left_ask flights (Extending resize) = 24
+left_ask flights (Sparing resize span is_committed) = 4
+left_ask flights (Backing resize span) = 2
+left_ask flights (Joining resize span) = 0
 
 -- whether an answer is still to come
 abbrev pub unheard : Option AskFacts → ℕ
@@ -158,10 +173,11 @@ abbrev pub IsNearer : ℕ → Space → ℕ → ℕ → Point → Type 0
 IsNearer c t stage bound point = (stages point < stage) ⊎ ((stages point ≡ stage) × (left c t point < bound))
 
 -- what a call knows where it goes next, and that it is nearer to its end; once it has ended, and where it goes over to
--- another arena, the client has nothing in flight
+-- another arena, or where another region is got, the client has nothing in flight
 abbrev pub Keeps : ℕ → Space → ℕ → ℕ → Next → Type 0
 Keeps c t stage bound (Go point) = Knows (mine c t) point × IsNearer c t stage bound point
 Keeps c t stage bound (Over arena point) = Idle (mine c t) × ((m : Mine) → Idle m → Knows m point) × (stages point < stage)
+Keeps c t stage bound (Move class) = Idle (mine c t) × (class < 121) × (1 < stage)
 Keeps c t stage bound Nowhere = ⊥
 Keeps c t stage bound next = Idle (mine c t)
 
@@ -174,11 +190,6 @@ StepsKeep = (c : ℕ) (s t : Space) (point : Point) (item : Item) → Sound s �
 -- what a call knows is of its client's own alone
 abbrev pub KnowledgeIsOwn : Type 0
 KnowledgeIsOwn = (c : ℕ) (s t : Space) (point : Point) → mine c t ≡ mine c s → Knows (mine c s) point → Knows (mine c t) point
-
--- a whole run has one answer and leaves one desk, and no item comes behind it
-abbrev pub RunsEndOnce : Type 0
-RunsEndOnce = (had has last : DeskFacts) (request : Request) (items more : List Item) (answer other : Answered)
-    → IsRun had request items answer has → IsRun had request (items ++ more) other last → (more ≡ []) × (other ≡ answer) × (last ≡ has)
 
 -- ---- where a request begins
 
@@ -200,7 +211,7 @@ Has desk region = ((addr : ℕ) × (held_at addr desk ≡ Some region)) ⊎ Cont
 pub record Ready (m : Mine) (desk : DeskFacts) (at : Stage) : Type 0 where
   pub idle : Idle m
   pub served : at.arena ≡ desk.arena → is_served m ≡ true
-  pub holds : (region : Held) → Has desk region → at.arena ≡ region.arena → is_held m region.addr ≡ true
+  pub holds : (region : Held) → Has desk region → at.arena ≡ region.arena → is_held_of m region.addr region.class ≡ true
   pub cached : cached_of at.arena desk ≤ length m.regions
 
 -- what is known where a request begins, or that it has ended with nothing in flight
@@ -218,3 +229,8 @@ BeginsKnow = (m : Mine) (request : Request) (desk : DeskFacts) → IsInRange req
 abbrev pub BatchesKnow : Type 0
 BatchesKnow = (m : Mine) (request : Request) (desk : DeskFacts) (arena : ℕ)
     → Ready m desk (settle request desk arena More) → KnowsNext m (settle request desk arena More).next
+
+-- likewise where another region takes the place of the one in hand: the client has then what that leaves
+abbrev pub MovesKnow : Type 0
+MovesKnow = (m : Mine) (request : Request) (desk : DeskFacts) (arena class : ℕ) → class < 121
+    → Ready m (desk_led desk (Move class)) (settle request desk arena (Move class)) → KnowsNext m (settle request desk arena (Move class)).next

@@ -1,4 +1,5 @@
 pub mod Items
+pub mod Clients
 pub mod Stages
 pub mod Words
 pub mod Table

@@ -1,7 +1,7 @@
 -- What a call tells that it needs, by where it stands.
 use Rattle.std.specs.Prelude.{◌≡◌, ◌≤◌, ℕ, false, List, [], ◌∷◌, length, IsSomeAnd}
-use Rattle.thread_cache.specs.Desks.{DeskFacts, addrs_in, going, is_cacheable}
-use Rattle.call_plan.specs.Words.{Request, Malloc, Memalign, Free, Publish, Flush, Cache, TurnPoint, Giving, Turns, Next, Go, Over, Ends, Nowhere, Stage}
+use Rattle.call_plan.specs.Clients.{DeskFacts, addrs_in, going, is_cacheable}
+use Rattle.call_plan.specs.Words.{Request, Malloc, Memalign, Free, Publish, Realloc, Flush, Cache, NewCache, TurnPoint, Giving, Turns, Next, Go, Over, Ends, Nowhere, Stage}
 use Rattle.call_plan.specs.Desks.{flushes}
 use Rattle.call_plan.specs.declared.needs.Need.{Need}
 use Rattle.call_plan.specs.declared.needs.Need.TheVariants.{Turn as NeedsTurn, Ask as NeedsAsk, Done as IsDone, Starved as IsStarved}
@@ -81,8 +81,10 @@ LeavesDesk (Malloc size) = ⊥
 LeavesDesk (Memalign align size) = ⊥
 LeavesDesk (Free addr) = ⊥
 LeavesDesk (Publish addr) = ⊥
+LeavesDesk (Realloc addr size) = ⊥
 LeavesDesk Flush = ⊥
 LeavesDesk (Cache on) = ⊥
+LeavesDesk NewCache = ⊥
 LeavesDesk request = Unit {0}
 
 -- a call waits at a point, or has ended

@@ -2,8 +2,8 @@
 use Rattle.std.specs.Prelude.{◌≡◌, ℕ, ◌+◌, ◌-◌, Bool, true, false, Option, None, Some}
 use Rattle.space_model.specs.Step.{next_flight}
 use Rattle.space_model.specs.Purging.{is_regranted}
-use Rattle.call_plan.specs.Words.{Then, Replied, Refused, AskPoint, Skipping, Trimming, Growing, Paring, Needing, Granting, Committing, Merging, Easing, Returning, Decommitting, Forcing, Offering, Turns, Asks, Next, Go, Ends, Refuses, Reply, Space, Span, Sound, mine, AskFacts}
-use Rattle.call_plan.specs.Table.{look_on, need_chunks, put_next, put_purged, step, want}
+use Rattle.call_plan.specs.Words.{Then, Replied, Refused, AskPoint, Skipping, Trimming, Growing, Paring, Needing, Granting, Committing, Merging, Easing, Returning, Decommitting, Forcing, Cutting, Extending, Sparing, Backing, Joining, Offering, Turns, Asks, Next, Go, Ends, Refuses, Reply, Space, Span, Sound, mine, AskFacts}
+use Rattle.call_plan.specs.Table.{look_on, move, need_chunks, put_next, put_purged, step, want}
 use Rattle.call_plan.specs.Knows.{Flies, Idle, Knows}
 use Rattle.call_plan.specs.Laws.{Moves, flights_of}
 
@@ -25,7 +25,8 @@ AfterDalloc c s t true span later next = (next ≡ put_next later (next_flight c
 -- to speak against it. Of a malloc: a split leaves the extent whole and nobody's, and just as many chunks as are needed
 -- are asked for; where these were granted, and for a commit and the alloc of them, that is the end. Of an extent that is
 -- put down or purged: a merge leaves the neighbour to the arena, a purge or a decommit leaves the extent as it was, and a
--- dalloc leaves it to the client, unless that chunk was found or an extent of the arena meets it.
+-- dalloc leaves it to the client, unless that chunk was found or an extent of the arena meets it. Of a region that is resized:
+-- another one takes its place.
 abbrev pub AfterRefusal : ℕ → Space → Space → Option ℕ → AskPoint → AskFacts → Next → Type 0
 AfterRefusal c s t found (Skipping wish span is_committed skip) asked next = Rests c t next (need_chunks wish)
 AfterRefusal c s t found (Trimming wish span is_committed) asked next = Rests c t next (need_chunks wish)
@@ -40,6 +41,11 @@ AfterRefusal c s t found (Easing span later) asked next = HoldsExtent c t (fligh
 AfterRefusal c s t found (Returning span later) asked next = AfterDalloc c s t (is_regranted found span s.parts) span later next
 AfterRefusal c s t found (Decommitting span later) asked next = HoldsExtent c t (flights_of c s) span next (Go (Asks (Forcing span later) None))
 AfterRefusal c s t found (Forcing span later) asked next = HoldsExtent c t (flights_of c s) span next (put_purged span later)
+AfterRefusal c s t found (Cutting resize) asked next = Rests c t next (move resize)
+AfterRefusal c s t found (Extending resize) asked next = Rests c t next (move resize)
+AfterRefusal c s t found (Sparing resize span is_committed) asked next = Rests c t next (move resize)
+AfterRefusal c s t found (Backing resize span) asked next = Rests c t next (move resize)
+AfterRefusal c s t found (Joining resize span) asked next = Rests c t next (move resize)
 
 -- what stands once a refusal of an ask was taken in is what the table of refusals says
 abbrev pub RefusalsStand : Type 0

@@ -2,7 +2,7 @@
 use Rattle.std.specs.Prelude.{◌≡◌, ℕ, ◌+◌, ◌-◌, ◌*◌, ◌<◌, ◌≤◌, ◌==◌, Bool, false, length, filter, max, if◌then◌else◌}
 use Rattle.space_model.specs.declared.Op.TheVariants.{Back}
 use Rattle.space_model.specs.Step.{is_emptied, staying}
-use Rattle.call_plan.specs.Words.{Item, TurnPoint, Landing, Finding, Offering, AskPoint, Skipping, Trimming, Growing, Paring, Needing, Granting, Committing, Merging, Easing, Returning, Decommitting, Forcing, Point, Turns, Asks, Tells, Next, Go, Op, Space, Sound, Mine, mine}
+use Rattle.call_plan.specs.Words.{Item, TurnPoint, Landing, Finding, Offering, AskPoint, Skipping, Trimming, Growing, Paring, Needing, Granting, Committing, Merging, Easing, Returning, Decommitting, Forcing, Cutting, Extending, Sparing, Backing, Joining, Point, Turns, Asks, Tells, Next, Go, Op, Space, Sound, Mine, mine}
 use Rattle.call_plan.specs.Table.{Want, WantTurn, WantAsk, want, step, is_marked}
 use Rattle.call_plan.specs.Knows.{Knows}
 use Rattle.call_plan.specs.Laws.{Moves}
@@ -39,6 +39,11 @@ needed_ask flights (Easing span later) = 16 * (flights - 1) + 10
 needed_ask flights (Returning span later) = 16 * flights + 8
 needed_ask flights (Decommitting span later) = 16 * (flights - 1) + 7
 needed_ask flights (Forcing span later) = 16 * (flights - 1) + 6
+needed_ask flights (Cutting resize) = 16
+needed_ask flights (Extending resize) = 16
+needed_ask flights (Sparing resize span is_committed) = 3
+needed_ask flights (Backing resize span) = 2
+needed_ask flights (Joining resize span) = 1
 
 -- the turns without memory from a point on
 abbrev pub needed_at : ℕ → Point → ℕ

@@ -7,7 +7,7 @@ use Rattle.call_plan.specs.Items.{Item, Told}
 use Rattle.call_plan.specs.declared.points.AskPoint.{AskPoint}
 use Rattle.call_plan.specs.declared.points.TurnPoint.{TurnPoint}
 use Rattle.call_plan.specs.declared.points.Lead.{Lead}
-use Rattle.call_plan.specs.declared.points.Lead.TheVariants.{Turns as AtTurn, Asks as AtAsk, Tells as AtEnd, Over as ToOther, More as ToMore, Gone as ToGone, Ends as ToAnswer, Nowhere as ToNowhere}
+use Rattle.call_plan.specs.declared.points.Lead.TheVariants.{Turns as AtTurn, Asks as AtAsk, Tells as AtEnd, Over as ToOther, More as ToMore, Move as ToMove, Gone as ToGone, Ends as ToAnswer, Nowhere as ToNowhere}
 
 -- A point at which a call waits: for the reply to a turn; for the answer to an ask, or, where it is there, for the reply to the
 -- turn that takes it in; or for the ask that destroys an extent of an arena that has ended, committed or not.
@@ -17,11 +17,13 @@ pub data Point : Type 0 where
   Tells : Span → Bool → Point
 
 -- Where an item leads: to a point; to a point of the arena with this index; to the next batch of regions that go back, or to the
--- end; to the end, since the arena isn't live; to an answer; or nowhere, since it is none that could come.
+-- end; to a region of the class that takes the place of the one in hand; to the end, since the arena isn't live; to an answer; or
+-- nowhere, since it is none that could come.
 pub data Next : Type 0 where
   Go : Point → Next
   Over : ℕ → Point → Next
   More : Next
+  Move : ℕ → Next
   Gone : Next
   Ends : Answered → Next
   Nowhere : Next
@@ -38,6 +40,7 @@ led (AtAsk point) heard = Go (Asks point heard)
 led (AtEnd span is_committed) heard = Go (Tells span is_committed)
 led (ToOther arena point) heard = Over arena (Turns point)
 led ToMore heard = More
+led (ToMove class) heard = Move class
 led ToGone heard = Gone
 led (ToAnswer answer) heard = Ends answer
 led ToNowhere heard = Nowhere

@@ -1,11 +1,11 @@
 -- The table of calls: what a call wants at each point, and where an item leads.
 use Rattle.std.specs.Prelude.{ℕ, ◌+◌, ◌-◌, ◌*◌, ◌/◌, ◌==◌, ◌&&◌, Bool, true, false, nat_lt, min, max, ◌∷◌, Option, None, Some, if◌then◌else◌}
 use Rattle.space_model.specs.declared.Ask.TheVariants.{Destroy as DestroyExtent}
-use Rattle.space_model.specs.declared.Op.TheVariants.{Look, CutDone, GrowDone, CommitDone, Land, Back, PutLook, MergeDone, Fill, Advance, PurgeTake, LazyDone, Offer, OfferDone, DecommitDone, ForcedDone, Publish, TakeOver, Reset, Destroy, DestroyTake, Set}
+use Rattle.space_model.specs.declared.Op.TheVariants.{Look, CutDone, GrowDone, CommitDone, Land, Back, PutLook, MergeDone, Fill, Advance, PurgeTake, LazyDone, Offer, OfferDone, DecommitDone, ForcedDone, Publish, TakeOver, Reset, Destroy, DestroyTake, Set, Widen, JoinDone, Trim, TrimDone}
 use Rattle.hook_api.specs.Asked.{heard_in}
 use Rattle.call_plan.specs.Words.{Item, Replied, Told, Starved, Given, Region, Finished, Arena, Limits, Ok, Refused, BadAnswer, NotHeld, Busy, NoMemory, ArenasFull, end_of, max_series, Rest}
-use Rattle.call_plan.specs.Words.{Wish, Visit, Then, Batches, Visiting, Change, Stops, Visits, Leaves, TurnPoint, Filling, Looking, Landing, Giving, Finding, Taking, Offering, Advancing, Changing, Making, Resetting, Destroying, Dooming, Publishing, Owning, AskPoint, Skipping, Trimming, Growing, Paring, Needing, Granting, Committing, Merging, Easing, Returning, Decommitting, Forcing, Point, Turns, Asks, Tells, Next, Go, Over, More, Gone, Ends, Nowhere}
-use Rattle.call_plan.specs.Words.{Ask, Alloc, Dalloc, Commit, Decommit, PurgeLazy, PurgeForced, Split, Merge, Answer, Placed, Op, Reply, NoArena, Nothing, Noted, Took, Grow, Cut, Whole, Refuse, Bad, Grown, Landed, NextFlight, Beside, Purge, Joined, Regions, LimitsAre, Taken, Lazy, Kept, Abandoned, Decommitted, Doomed, Owned, InUse, ToDirty, ToMuzzy, Setting, Unbind, Span, AskFacts}
+use Rattle.call_plan.specs.Words.{Wish, Resize, Visit, Then, Batches, Visiting, Moving, Change, Stops, Visits, Leaves, TurnPoint, Filling, Looking, Landing, Giving, Finding, Taking, Offering, Advancing, Changing, Making, Resetting, Destroying, Dooming, Publishing, Owning, Widening, Narrowing, AskPoint, Skipping, Trimming, Growing, Paring, Needing, Granting, Committing, Merging, Easing, Returning, Decommitting, Forcing, Cutting, Extending, Sparing, Backing, Joining, Point, Turns, Asks, Tells, Next, Go, Over, More, Move, Gone, Ends, Nowhere}
+use Rattle.call_plan.specs.Words.{Ask, Alloc, Dalloc, Commit, Decommit, PurgeLazy, PurgeForced, Split, Merge, Answer, Placed, Op, Reply, NoArena, Nothing, Noted, Took, Grow, Cut, Whole, Refuse, Bad, Grown, Landed, NextFlight, Beside, Purge, Joined, Regions, LimitsAre, Taken, Lazy, Kept, Abandoned, Decommitted, Doomed, Owned, InUse, ToDirty, ToMuzzy, Setting, Unbind, Span, AskFacts, pages_at}
 
 -- ---- what is wanted at a point
 
@@ -26,6 +26,22 @@ whole_chunks pages = chunks_for pages * 512
 abbrev pub alloc_of : Wish → ℕ → Ask
 alloc_of wish pages = Alloc false None pages (max 512 wish.align)
 
+-- the pages of a region that is resized
+abbrev pub own_span : Resize → Span
+own_span resize = record { first = resize.addr / 4096; pages = resize.pages }
+
+-- how many pages it lacks
+abbrev pub lacks : Resize → ℕ
+lacks resize = pages_at resize.class - resize.pages
+
+-- the first page behind it
+abbrev pub behind : Resize → ℕ
+behind resize = resize.addr / 4096 + resize.pages
+
+-- an alloc of the chunks that it lacks, right behind it
+abbrev pub alloc_behind : Resize → Ask
+alloc_behind resize = Alloc false (Some (behind resize)) (whole_chunks (lacks resize)) 512
+
 -- the operation of a turn that takes in no answer
 abbrev pub op_at : TurnPoint → Op
 op_at (Filling wish count) = Fill wish.class count
@@ -43,6 +59,8 @@ op_at (Destroying cached) = Destroy cached
 op_at Dooming = DestroyTake
 op_at (Publishing addr) = Publish addr
 op_at (Owning addr frees past) = TakeOver addr
+op_at (Widening resize) = Widen resize.addr (pages_at resize.class)
+op_at (Narrowing resize) = Trim resize.addr resize.class
 
 -- the ask at a point
 abbrev pub ask_at : AskPoint → Ask
@@ -58,6 +76,11 @@ ask_at (Easing span later) = PurgeLazy span
 ask_at (Returning span later) = Dalloc span true
 ask_at (Decommitting span later) = Decommit span
 ask_at (Forcing span later) = PurgeForced span
+ask_at (Cutting resize) = Split (own_span resize) (pages_at resize.class)
+ask_at (Extending resize) = alloc_behind resize
+ask_at (Sparing resize span is_committed) = Split span (lacks resize)
+ask_at (Backing resize span) = Commit span
+ask_at (Joining resize span) = Merge (own_span resize) span
 
 -- the operation of the turn that takes its answer in
 abbrev pub done_at : AskPoint → AskFacts → Op
@@ -73,6 +96,11 @@ done_at (Easing span later) asked = LazyDone (heard_in asked)
 done_at (Returning span later) asked = OfferDone (heard_in asked) None
 done_at (Decommitting span later) asked = DecommitDone (heard_in asked)
 done_at (Forcing span later) asked = ForcedDone (heard_in asked)
+done_at (Cutting resize) asked = TrimDone (heard_in asked) resize.class
+done_at (Extending resize) asked = GrowDone (heard_in asked) None
+done_at (Sparing resize span is_committed) asked = CutDone (heard_in asked) true
+done_at (Backing resize span) asked = CommitDone (heard_in asked)
+done_at (Joining resize span) asked = JoinDone (heard_in asked) resize.class
 
 -- what a call wants at a point
 abbrev pub want : Point → Want
@@ -112,6 +140,27 @@ abbrev pub grow : Wish → ℕ → Next
 grow wish series =
     if nat_lt (chunks_for wish.pages) (min series max_series) then Go (Asks (Growing wish (min series max_series)) None) else need_chunks wish
 
+-- ---- a region that takes another class in place
+
+-- the pages that the region lacks are committed, or its extent is merged with them
+abbrev pub back : Resize → Span → Bool → Next
+back resize span true = Go (Asks (Joining resize span) None)
+back resize span false = Go (Asks (Backing resize span) None)
+
+-- what stands behind the pages that the region lacks is cut off
+abbrev pub spare : Resize → Span → Bool → Next
+spare resize span is_committed =
+    if nat_lt (lacks resize) span.pages then Go (Asks (Sparing resize span is_committed) None) else back resize span is_committed
+
+-- another region takes its place
+abbrev pub move : Resize → Next
+move resize = Move resize.class
+
+-- a grant right behind the region serves; any other one is put down, and another region takes its place
+abbrev pub extend : Resize → Span → Bool → Next
+extend resize span is_committed =
+    if span.first == behind resize then spare resize span is_committed else Go (Turns (Finding span 0 true (Moving resize.class)))
+
 -- the range that an alloc's answer places, of so many pages
 abbrev pub answered_span : ℕ → Answer → Span
 answered_span pages (Placed is_committed zeroed first) = record { first = first; pages = pages }
@@ -145,6 +194,7 @@ visited visit = visited_list visit.rest visit.other visit.keep visit.told
 -- what follows once nothing is in flight
 abbrev pub onward : Then → Next
 onward Batches = More
+onward (Moving class) = Move class
 onward (Visiting visit left) = if left == 0 then visited visit else Go (Turns (Taking visit (Some left)))
 
 -- the next extent in flight is put down, or there is none
@@ -203,17 +253,21 @@ abbrev pub took_over : ℕ → ℕ → Bool → Next
 took_over addr class true = More
 took_over addr class false = Ends (Ok (Region addr class))
 
+-- the region that landed, or was free, is the answer, or takes the place of the one in hand
+abbrev pub got : Wish → ℕ → Next
+got wish addr = if wish.moves then More else Ends (Ok (Region addr wish.class))
+
 -- ---- where an item leads
 
 -- where the reply to a turn leads that took in no answer
 abbrev pub turn_replied : TurnPoint → Reply → Next
-turn_replied (Filling wish count) (Regions (addr ∷ addrs)) = Ends (Ok (Region addr wish.class))
+turn_replied (Filling wish count) (Regions (addr ∷ addrs)) = got wish addr
 turn_replied (Filling wish count) Nothing = Go (Turns (Looking wish))
 turn_replied (Filling wish count) NoArena = Gone
 turn_replied (Looking wish) (Took span is_committed skip) = skip_to wish span is_committed skip
 turn_replied (Looking wish) (Grow series) = grow wish series
 turn_replied (Looking wish) NoArena = Gone
-turn_replied (Landing wish span) (Landed first count) = Ends (Ok (Region first wish.class))
+turn_replied (Landing wish span) (Landed first count) = got wish first
 turn_replied (Giving addrs) (NextFlight next) = put_next Batches next
 turn_replied (Finding own tries fresh later) (Beside other) = beside own tries fresh other later
 turn_replied (Finding own tries fresh later) (NextFlight next) = put_next later next
@@ -241,6 +295,10 @@ turn_replied (Publishing addr) Noted = Ends (Ok Finished)
 turn_replied (Owning addr frees past) (Owned class) = took_over addr class frees
 turn_replied (Owning addr frees past) Nothing = Ends (NotHeld addr)
 turn_replied (Owning addr frees past) NoArena = Gone
+turn_replied (Widening resize) (Took span is_committed skip) = spare resize span is_committed
+turn_replied (Widening resize) Noted = Go (Asks (Extending resize) None)
+turn_replied (Widening resize) Nothing = move resize
+turn_replied (Narrowing resize) Noted = Go (Asks (Cutting resize) None)
 turn_replied point reply = Nowhere
 
 -- after the split of what stands before the run
@@ -310,6 +368,37 @@ abbrev pub forced : Span → Then → Reply → Next
 forced span later Noted = put_purged span later
 forced span later reply = Nowhere
 
+-- after the split of a region's extent: what was cut off is put down
+abbrev pub narrowed : Resize → Reply → Next
+narrowed resize (Cut high) = put_next Batches (Some high)
+narrowed resize Whole = move resize
+narrowed resize reply = Nowhere
+
+-- after the alloc of the chunks that it lacks
+abbrev pub extended : Resize → Reply → Next
+extended resize Refuse = move resize
+extended resize (Bad why) = move resize
+extended resize (Grown span is_committed) = extend resize span is_committed
+extended resize reply = Nowhere
+
+-- after the split of what stands behind the pages that it lacks
+abbrev pub spared : Resize → Bool → Reply → Next
+spared resize is_committed (Cut low) = back resize low is_committed
+spared resize is_committed Whole = move resize
+spared resize is_committed reply = Nowhere
+
+-- after the commit of these pages
+abbrev pub backed : Resize → Span → Reply → Next
+backed resize span Noted = Go (Asks (Joining resize span) None)
+backed resize span Whole = move resize
+backed resize span reply = Nowhere
+
+-- after the merge with them: the region has its class
+abbrev pub widened : Resize → Reply → Next
+widened resize (Landed first count) = More
+widened resize Whole = move resize
+widened resize reply = Nowhere
+
 -- where the reply to the turn leads that took an answer in
 abbrev pub told : AskPoint → AskFacts → Reply → Next
 told (Skipping wish span is_committed skip) asked reply = skipped wish is_committed reply
@@ -324,6 +413,11 @@ told (Easing span later) asked reply = eased span later reply
 told (Returning span later) asked reply = returned span later reply
 told (Decommitting span later) asked reply = decommitted span later reply
 told (Forcing span later) asked reply = forced span later reply
+told (Cutting resize) asked reply = narrowed resize reply
+told (Extending resize) asked reply = extended resize reply
+told (Sparing resize span is_committed) asked reply = spared resize is_committed reply
+told (Backing resize span) asked reply = backed resize span reply
+told (Joining resize span) asked reply = widened resize reply
 
 -- whether a turn with the operation may find no memory: it is the first one of what belongs together
 abbrev pub is_marked : Op → Bool
@@ -338,6 +432,8 @@ is_marked (Reset cached) = true
 is_marked (Destroy cached) = true
 is_marked DestroyTake = true
 is_marked (Set setting) = true
+is_marked (Widen addr pages) = true
+is_marked (Trim addr class) = true
 is_marked op = false
 
 -- where a turn leads that found no memory

@@ -7,6 +7,7 @@ ghost use Rattle.call_plan.specs.Stages.{led};
 
 use crate::{Answered, AskPoint, Lead, TurnPoint, Wish};
 use hook_api::Asked;
+use size_classes::class_pages;
 use space_model::{Answer, Ask, CHUNK_PAGES, Op, Reply, Span};
 
 /// The range that an alloc's answer places, of so many pages.
@@ -147,6 +148,20 @@ impl AskPoint {
             }
             AskPoint::Decommitting(span, _) => Ask::Decommit(span),
             AskPoint::Forcing(span, _) => Ask::PurgeForced(span),
+            AskPoint::Cutting(resize) => Ask::Split {
+                span: resize.span(),
+                left: class_pages(resize.class),
+            },
+            AskPoint::Extending(resize) => resize.alloc(),
+            AskPoint::Sparing { resize, span, .. } => Ask::Split {
+                span,
+                left: resize.lacks(),
+            },
+            AskPoint::Backing(_, span) => Ask::Commit(span),
+            AskPoint::Joining(resize, span) => Ask::Merge {
+                low: resize.span(),
+                high: span,
+            },
         }
     }
 
@@ -160,17 +175,30 @@ impl AskPoint {
                 let keep_low = false;
                 Op::CutDone { heard, keep_low }
             }
-            AskPoint::Trimming { .. } | AskPoint::Paring { .. } | AskPoint::Granting { .. } => {
+            AskPoint::Trimming { .. }
+            | AskPoint::Paring { .. }
+            | AskPoint::Granting { .. }
+            | AskPoint::Sparing { .. } => {
                 let keep_low = true;
                 Op::CutDone { heard, keep_low }
             }
-            AskPoint::Growing(..) | AskPoint::Needing(_) => Op::GrowDone { heard, found: None },
-            AskPoint::Committing(..) => Op::CommitDone { heard },
+            AskPoint::Growing(..) | AskPoint::Needing(_) | AskPoint::Extending(_) => {
+                Op::GrowDone { heard, found: None }
+            }
+            AskPoint::Committing(..) | AskPoint::Backing(..) => Op::CommitDone { heard },
             AskPoint::Merging { own_low, .. } => Op::MergeDone { heard, own_low },
             AskPoint::Easing(..) => Op::LazyDone { heard },
             AskPoint::Returning(..) => Op::OfferDone { heard, found: None },
             AskPoint::Decommitting(..) => Op::DecommitDone { heard },
             AskPoint::Forcing(..) => Op::ForcedDone { heard },
+            AskPoint::Cutting(resize) => Op::TrimDone {
+                heard,
+                class: resize.class,
+            },
+            AskPoint::Joining(resize, _) => Op::JoinDone {
+                heard,
+                class: resize.class,
+            },
         }
     }
 
@@ -213,6 +241,15 @@ impl AskPoint {
             AskPoint::Returning(span, then) => then.returned(span, reply),
             AskPoint::Decommitting(span, then) => then.decommitted(span, reply),
             AskPoint::Forcing(span, then) => then.forced(span, reply),
+            AskPoint::Cutting(resize) => resize.narrowed(reply),
+            AskPoint::Extending(resize) => resize.extended(reply),
+            AskPoint::Sparing {
+                resize,
+                committed,
+                ..
+            } => resize.spared(committed, reply),
+            AskPoint::Backing(resize, span) => resize.backed(span, reply),
+            AskPoint::Joining(resize, _) => resize.widened(reply),
         }
     }
 }

@@ -3,33 +3,35 @@
 ghost use Rattle.std.specs.Prelude.{◌≡◌, ◌<◌, ◌≤◌, min, true, false, IfOk, IsOk, OnOk, OnErr, None};
 ghost use Rattle.std.specs.Option.{option_map};
 ghost use Rattle.space_model.specs.Slabs.{most_regions};
-ghost use Rattle.thread_cache.specs.Desks.{batch_facts, held_at};
-ghost use Rattle.call_plan.specs.Calls.{may_hold};
-ghost use Rattle.call_plan.specs.Desks.{flushes};
+ghost use Rattle.call_plan.specs.Clients.{batch_facts, held_at};
+ghost use Rattle.call_plan.specs.Calls.{makes_cache, may_hold};
+ghost use Rattle.call_plan.specs.Desks.{flushes, meant as meant_by, ready};
 ghost use Rattle.call_plan.specs.Needs.{LeavesDesk};
 ghost use Rattle.call_plan.specs.Points.{IsSizedNext};
-ghost use Rattle.call_plan.specs.Runs.{after_time, batch_goes, begin_bind, begin_cache, begin_desk, begin_flush, begin_free, begin_get, begin_malloc, begin_memalign, begin_publish, begin_set, begin_stage, first_turn, first_turn_but_0, get, purge_visit, share, stage, decay_setting, whole_visit, wish_for};
+ghost use Rattle.call_plan.specs.Runs.{after_time, all_done, batch_goes, begin, begin_bind, begin_cache, begin_desk, begin_flush, begin_free, begin_get, begin_malloc, begin_memalign, begin_publish, begin_set, begin_stage, first_turn, first_turn_but_0, get, purge_visit, share, stage, decay_setting, whole_visit, wish_for};
 ghost use Rattle.call_plan.specs.Stages.{Ends, led};
 
-use crate::{Answered, Change, Given, Lead, Request, Stage, TurnPoint, Visit, Wish};
+use crate::{Answered, Batch, Change, Desk, Given, Lead, Request, Stage, TurnPoint, Visit, Wish};
 use size_classes::{
     PAGE_BYTES, SMALL_CLASSES, SizeFault, aligned_class, class_of, class_pages, slab_regions, slots,
 };
 use space_model::{Addresses, Rest, Setting};
 use std::alloc::{AllocError as NoMemory, Global};
-use thread_cache::{Batch, Desk, Held};
+use thread_cache::Held;
 
 impl Wish {
-    /// So many regions of a class, in an extent at an alignment in pages.
-    fn of_class(class: u8, align: u64, count: u32) -> Wish
+    /// So many regions of a class, in an extent at an alignment in pages, of which one takes the place of the one in hand or none
+    /// does.
+    fn of_class(moves: bool, class: u8, align: u64, count: u32) -> Wish
         requires { class < 121 }
-        ensures { result ≡ wish_for class align count }
+        ensures { result ≡ wish_for moves class align count }
     {
         Wish {
             pages: class_pages(class),
             align,
             class,
             count,
+            moves,
         }
     }
 }
@@ -48,11 +50,11 @@ fn served(class: u8, count: u32) -> u32
 }
 
 /// Regions of a small class are looked for in the slabs first.
-fn get(class: u8, align: u64, count: u32) -> Lead
+pub(crate) fn get(moves: bool, class: u8, align: u64, count: u32) -> Lead
     requires { class < 121 }
-    ensures { led result None ≡ get class align count }
+    ensures { led result None ≡ get moves class align count }
 {
-    let wish = Wish::of_class(class, align, served(class, count));
+    let wish = Wish::of_class(moves, class, align, served(class, count));
     if class < SMALL_CLASSES {
         TurnPoint::Filling(wish, count).next()
     } else {
@@ -61,7 +63,7 @@ fn get(class: u8, align: u64, count: u32) -> Lead
 }
 
 /// How many regions of a class are got at once.
-fn share(class: u8, desk: &Desk) -> u32
+pub(crate) fn share(class: u8, desk: &Desk) -> u32
     ensures { result ≡ share class desk.now.facts }
 {
     if desk.caches() && class < SMALL_CLASSES {
@@ -117,8 +119,8 @@ fn after_time(rest: Rest, ms: i64) -> Change
 }
 
 impl Stage {
-    /// The call ends with an answer before any turn.
-    fn end(&mut self, arena: u32, answer: Answered)
+    /// The call ends with an answer.
+    pub(crate) fn end(&mut self, arena: u32, answer: Answered)
         ensures { self.new ≡ stage arena (Ends answer) }
     {
         self.stand(arena, Lead::Ends(answer));
@@ -135,7 +137,7 @@ impl Stage {
                 let addr = region.addr;
                 self.end(region.arena, Answered::Ok(Given::Region { addr, class }));
             }
-            None => self.stand(desk.arena(), get(class, align, share(class, desk))),
+            None => self.stand(desk.arena(), get(false, class, align, share(class, desk))),
         }
     }
 
@@ -198,13 +200,26 @@ impl Stage {
 
     /// The batch goes back, or where there is none, all is done.
     #[inline(always)]
-    pub(crate) fn go_back(&mut self, batch: Option<Batch>)
-        ensures { self.new ≡ batch_goes self.old.arena (option_map batch_facts batch) }
+    pub(crate) fn go_back(&mut self, batch: Option<Batch>, gained: Option<Held>)
+        ensures { self.new ≡ batch_goes self.old.arena gained (option_map batch_facts batch) }
     {
         match batch {
             Some(batch) => {
                 self.arena = batch.arena;
                 self.go(TurnPoint::Giving(Addresses::new(batch.addrs)).next());
+            }
+            None => self.all_done(gained),
+        }
+    }
+
+    /// All is done, and the region that was gained is the answer, if one was.
+    pub(crate) fn all_done(&mut self, gained: Option<Held>)
+        ensures { self.new ≡ all_done self.old.arena gained }
+    {
+        match gained {
+            Some(region) => {
+                let (addr, class) = (region.addr, region.class);
+                self.end(region.arena, Answered::Ok(Given::Region { addr, class }));
             }
             None => self.go(Lead::Ends(Answered::Ok(Given::Done))),
         }
@@ -223,7 +238,7 @@ impl Stage {
         };
         let batch = desk.batch(alloc, desk.hand_for(region), false)?;
         self.arena = region.arena;
-        self.go_back(batch);
+        self.go_back(batch, None);
         desk.lose(addr);
         desk.free(region);
         Ok(())
@@ -250,7 +265,7 @@ impl Stage {
     {
         let batch = desk.batch(alloc, desk.hand(), true)?;
         self.arena = desk.arena();
-        self.go_back(batch);
+        self.go_back(batch, None);
         Ok(())
     }
 
@@ -347,8 +362,27 @@ impl Stage {
             Request::GrowLimit { arena, chunks } => {
                 self.set(arena, Setting::GrowLimit { chunks });
             }
+            Request::MallocIn { slot, .. }
+            | Request::FreeIn { slot, .. }
+            | Request::FlushCache { slot }
+            | Request::EndCache { slot } => self.end(desk.arena(), Answered::NoCache(slot)),
             _ => unreachable!(),
         }
+    }
+
+    /// One more explicit cache is made, and its identifier told, if there may be one.
+    fn new_cache(&mut self, alloc: Global, desk: &mut Desk) -> Result<(), NoMemory>
+        ensures stage { OnOk result (self.new ≡ begin_stage Request.NewCache desk.old.facts) }
+        ensures facts { OnOk result (desk.new.facts ≡ begin_desk Request.NewCache desk.old.facts) }
+        ensures room { desk.new.room ≡ desk.old.room }
+        ensures err { OnErr result (desk.new.facts ≡ desk.old.facts) }
+    {
+        let answer = match desk.make_cache(alloc)? {
+            Some(slot) => Answered::Ok(Given::Cache(slot)),
+            None => Answered::CachesFull,
+        };
+        self.end(desk.arena(), answer);
+        Ok(())
     }
 
     /// It stands where a request begins of a client, whose desk is as it is then. `NoMemory` only where there is none to name
@@ -363,7 +397,7 @@ impl Stage {
         ensures facts { OnOk result (desk.new.facts ≡ begin_desk request.now desk.old.facts) }
         ensures sized { OnOk result (IsSizedNext self.new.next) }
         ensures room { desk.old.room ≤ desk.new.room }
-        ensures spare { may_hold request.now ≡ false → flushes request.now ≡ false → IsOk result }
+        ensures spare { may_hold request.now ≡ false → flushes request.now ≡ false → makes_cache request.now ≡ false → IsOk result }
         ensures err { OnErr result (desk.new.facts ≡ desk.old.facts) }
     {
         match *request {
@@ -371,10 +405,37 @@ impl Stage {
             Request::Memalign { align, size } => self.memalign(align, size, desk),
             Request::Free { addr } => return self.free(alloc, addr, desk),
             Request::Publish { addr } => self.publish(addr, desk),
+            Request::Realloc { addr, size } => return self.realloc(alloc, addr, size, desk),
             Request::Flush => return self.flush(alloc, desk),
             Request::Cache(on) => return self.cache(alloc, on, desk),
+            Request::NewCache => return self.new_cache(alloc, desk),
             _ => self.begin_rare(request, desk),
         }
         Ok(())
+    }
+    /// It stands where a request begins of a client, whose desk is as it is then: one that uses an explicit cache is as one of the
+    /// client's own cache, in whose place that is. Gives the request as it is carried out. Where memory is wanting the desk is as
+    /// it was.
+    #[tactic(auto, using(crate::proofs::Swaps::undoing))]
+    pub(crate) fn begin_meant(
+        &mut self,
+        alloc: Global,
+        request: &Request,
+        desk: &mut Desk,
+    ) -> Result<Request, NoMemory>
+        ensures request { IfOk result (λ meant. meant ≡ meant_by request.now desk.old.facts) }
+        ensures stage { OnOk result (self.new ≡ (begin request.now desk.old.facts).stage) }
+        ensures facts { OnOk result (desk.new.facts ≡ begin_desk (meant_by request.now desk.old.facts) (ready request.now desk.old.facts)) }
+        ensures room { desk.old.room ≤ desk.new.room }
+        ensures spare { may_hold request.now ≡ false → flushes request.now ≡ false → makes_cache request.now ≡ false → IsOk result }
+        ensures err { OnErr result (desk.new.facts ≡ desk.old.facts) }
+    {
+        let swaps = request.swap(desk);
+        let meant = if swaps { request.plain() } else { *request };
+        let begun = self.begin(alloc, &meant, desk);
+        if begun.is_err() && swaps {
+            desk.swap_back(false);
+        }
+        begun.map(|_| meant)
     }
 }

@@ -4,21 +4,20 @@ ghost use Rattle.std.specs.Prelude.{◌≡◌, List, ◌∷◌, None, Some, IfNo
 ghost use Rattle.call_plan.specs.Calls.{HasRoomToHold, may_hold, moment_at, named_call, started, takes_memory};
 ghost use Rattle.call_plan.specs.Desks.{flushes};
 ghost use Rattle.call_plan.specs.Items.{Item as Fed, lent};
-ghost use Rattle.call_plan.specs.Points.{IsSizedNext};
+ghost use Rattle.call_plan.specs.Points.{IsSizedNext, IsSizedTurn};
 ghost use Rattle.call_plan.specs.Needs.{Goes, GivesNone, HasFewAddresses, IsFed, IsFewAddresses, IsGiving, IsPointOrEnd, NeedIs, named};
 ghost use Rattle.call_plan.specs.Reads.{aimed, ended_by, heard_next, taken_next};
-ghost use Rattle.call_plan.specs.Runs.{after, begin, run, settle, stage, step_next};
+ghost use Rattle.call_plan.specs.Runs.{after, begin, desk_led, run, settle, stage, step_next};
 ghost use Rattle.call_plan.specs.Table.{op_at};
 ghost use Rattle.call_plan.specs.Stages.{Go, More, Turns, hears_next, led};
-ghost use Rattle.thread_cache.specs.Desks.{DeskFacts};
+ghost use Rattle.call_plan.specs.Clients.{DeskFacts};
 
-use crate::{Answered, Given, Item, Lead, Need, Request, Turn, TurnPoint};
+use crate::{Answered, Desk, Given, Item, Lead, Need, Request, Turn, TurnPoint};
 use hook_api::Asked;
-use size_classes::Addrs;
+use size_classes::{Addrs, class_pages};
 use space_model::{Addresses, Ask, Op};
 use std::alloc::{AllocError as NoMemory, Global};
 use std::marker::Model;
-use thread_cache::Desk;
 
 /// Where a call stands: the arena whose turn or ask it waits for, and the place, or its answer. What a hook answered stands
 /// beside the place until a turn takes it in. Contracts see the arena, and the point or the answer.
@@ -55,6 +54,7 @@ fn copied(alloc: Global, addrs: &Addresses) -> Result<Addresses, NoMemory>
 impl TurnPoint {
     /// The operation of the turn. `NoMemory` where there is none to name the regions that go back.
     fn op(&self, alloc: Global) -> Result<Op, NoMemory>
+        requires { IsSizedTurn self.now }
         ensures op { IfOk result (λ op. op ≡ op_at self.now) }
         ensures few { HasFewAddresses (Go (Turns self.now)) → IsOk result }
         ensures giving { OnErr result (IsGiving (Go (Turns self.now))) }
@@ -93,6 +93,14 @@ impl TurnPoint {
             TurnPoint::Dooming => Op::DestroyTake,
             TurnPoint::Publishing(addr) => Op::Publish { addr: *addr },
             TurnPoint::Owning { addr, .. } => Op::TakeOver { addr: *addr },
+            TurnPoint::Widening(resize) => Op::Widen {
+                addr: resize.addr,
+                pages: class_pages(resize.class),
+            },
+            TurnPoint::Narrowing(resize) => Op::Trim {
+                addr: resize.addr,
+                class: resize.class,
+            },
         })
     }
 }
@@ -119,6 +127,7 @@ impl Request {
         match *self {
             Request::Flush => true,
             Request::Cache(on) => !on,
+            Request::FlushCache { .. } | Request::EndCache { .. } => true,
             _ => false,
         }
     }
@@ -133,18 +142,22 @@ impl Request {
             | Request::Free { .. }
             | Request::FreeForeign { .. }
             | Request::Publish { .. }
-            | Request::Take { .. } => true,
+            | Request::Take { .. }
+            | Request::Realloc { .. }
+            | Request::MallocIn { .. }
+            | Request::FreeIn { .. } => true,
             _ => false,
         }
     }
 
-    /// Makes room for a region that its client may come to hold by it, or has in hand. Takes no memory where neither is.
+    /// Makes room for the regions that its client may come to hold by it, or has in hand or gained. Takes no memory where there are
+    /// none.
     fn make_room(&self, desk: &mut Desk) -> Result<(), NoMemory>
         ensures facts { desk.new.facts ≡ desk.old.facts }
-        ensures room { OnOk result ((may_hold self.now || is_some desk.old.facts.hand) ≡ true → 1 ≤ desk.new.room) }
-        ensures spare { (may_hold self.now || is_some desk.old.facts.hand) ≡ false → IsOk result }
+        ensures room { OnOk result ((may_hold self.now || is_some desk.old.facts.hand || is_some desk.old.facts.gained) ≡ true → 2 ≤ desk.new.room) }
+        ensures spare { (may_hold self.now || is_some desk.old.facts.hand || is_some desk.old.facts.gained) ≡ false → IsOk result }
     {
-        if self.may_hold() || desk.hand().is_some() {
+        if self.may_hold() || desk.hand().is_some() || desk.gained().is_some() {
             desk.reserve()
         } else {
             Ok(())
@@ -173,15 +186,16 @@ impl Stage {
     }
 
     /// It stands at the next batch of regions that go back, which its turn names, or at the end. Takes no memory.
-    fn go_on(&mut self, alloc: Global, request: &Request, desk: &Desk)
-        ensures { named request.now desk.now.facts self.new ≡ settle request.now desk.now.facts self.old.arena More }
+    pub(crate) fn go_on(&mut self, alloc: Global, request: &Request, desk: &Desk)
+        ensures stage { named request.now desk.now.facts self.new ≡ settle request.now desk.now.facts self.old.arena More }
+        ensures sized { IsSizedNext self.new.next }
     {
         match desk.next_arena(desk.hand(), request.flushes()) {
             Some(arena) => {
                 let unnamed = Addresses::new(Addrs::new(alloc));
                 self.stand(arena, TurnPoint::Giving(unnamed).next());
             }
-            None => self.go(Lead::Ends(Answered::Ok(Given::Done))),
+            None => self.all_done(request.gives(desk)),
         }
     }
 
@@ -197,13 +211,18 @@ impl Stage {
 
     /// It stands where a step leads, by what the client has then. Takes no memory: the regions that go back are named at their
     /// turn.
-    fn settle(&mut self, alloc: Global, request: &Request, desk: &Desk, lead: Lead)
-        requires { GivesNone (led lead None) }
-        ensures { named request.now desk.now.facts self.new ≡ settle request.now desk.now.facts self.old.arena (led lead None) }
+    fn settle(&mut self, alloc: Global, request: &Request, desk: &mut Desk, lead: Lead)
+        requires none { GivesNone (led lead None) }
+        requires sized { IsSizedNext (led lead None) }
+        ensures stage { named request.now desk.new.facts self.new ≡ settle request.now desk.old.facts self.old.arena (led lead None) }
+        ensures facts { desk.new.facts ≡ desk_led desk.old.facts (led lead None) }
+        ensures room { desk.new.room ≡ desk.old.room }
+        ensures sized { IsSizedNext self.new.next }
     {
         match lead {
             Lead::Over(arena, point) => self.stand(arena, Lead::Turns(point)),
             Lead::More => self.go_on(alloc, request, desk),
+            Lead::Move(class) => self.move_to(alloc, request, class, desk),
             Lead::Gone => self.go(Lead::Ends(Answered::NoArena(self.arena))),
             lead => self.go(lead),
         }
@@ -317,9 +336,11 @@ impl Stage {
     }
 
     /// It takes in an item, by what the client has after it.
-    pub(crate) fn feed(&mut self, alloc: Global, request: &Request, desk: &Desk, item: Item<'_>)
+    pub(crate) fn feed(&mut self, alloc: Global, request: &Request, desk: &mut Desk, item: Item<'_>)
         requires { IsSizedNext self.old.next }
-        ensures stage { named request.now desk.now.facts self.new ≡ settle request.now desk.now.facts self.old.arena (step_next self.old.next (lent item.entry)) }
+        ensures stage { named request.now desk.new.facts self.new ≡ settle request.now desk.old.facts self.old.arena (step_next self.old.next (lent item.entry)) }
+        ensures facts { desk.new.facts ≡ desk_led desk.old.facts (step_next self.old.next (lent item.entry)) }
+        ensures room { desk.new.room ≡ desk.old.room }
         ensures sized { IsSizedNext self.new.next }
     {
         if self.hear(item) {
@@ -365,21 +386,21 @@ impl Call {
         ensures place { OnOk result (place.new ≡ started client (begin request.now desk.old.facts) place.old (begin request.now desk.old.facts).stage.next) }
         ensures desk { OnOk result (desk.new.facts ≡ (begin request.now desk.old.facts).desk) }
         ensures answer { IfOk result (λ ended. ended ≡ ended_by (begin request.now desk.old.facts).stage.next) }
-        ensures room { OnOk result (HasRoomToHold desk.new.facts.hand desk.new.room (begin request.now desk.old.facts).stage.next) }
+        ensures room { OnOk result (HasRoomToHold desk.new.facts desk.new.room (begin request.now desk.old.facts).stage.next) }
         ensures spare { takes_memory request.now desk.old.facts ≡ false → IsOk result }
         ensures err { OnErr result (desk.new.facts ≡ desk.old.facts) }
         ensures free { OnErr result (place.new ≡ place.old) }
     {
         request.make_room(desk)?;
         let mut stage = Stage::new();
-        stage.begin(alloc, request, desk)?;
-        stage.close(request, desk);
+        let request = stage.begin_meant(alloc, request, desk)?;
+        stage.close(&request, desk);
         if let Some(answer) = stage.answer() {
             return Ok(Some(*answer));
         }
         let call = Call {
             client,
-            request: *request,
+            request,
             stage,
         };
         *place = Some(call);
@@ -451,11 +472,11 @@ impl Call {
     /// The run of the call goes on as from here. Takes no memory: the regions that go back next are named at their turn.
     pub fn next(&mut self, alloc: Global, desk: &mut Desk, item: Item<'_>)
         requires goes { Goes (after (moment_at self.old desk.old.facts) (lent item)).stage.next }
-        requires room { HasRoomToHold desk.old.facts.hand desk.old.room self.old.stage.next }
+        requires room { HasRoomToHold desk.old.facts desk.old.room self.old.stage.next }
         ensures client { self.new.client ≡ self.old.client }
         ensures moment { moment_at self.new desk.new.facts ≡ after (moment_at self.old desk.old.facts) (lent item.entry) }
         ensures reads { (items : List Fed) → run (moment_at self.old desk.old.facts) (lent item.entry ∷ items) ≡ run (moment_at self.new desk.new.facts) items }
-        ensures room { HasRoomToHold desk.new.facts.hand desk.new.room self.new.stage.next }
+        ensures room { HasRoomToHold desk.new.facts desk.new.room self.new.stage.next }
     {
         self.stage.tell(desk, item);
         self.stage.feed(alloc, &self.request, desk, item);

@@ -1,8 +1,8 @@
 //! How a call goes on that gets an extent.
 
 ghost use Rattle.std.specs.Prelude.{◌≡◌, ℕ, None};
-ghost use Rattle.call_plan.specs.Table.{chunks_for, commit, grant, grow, need_chunks, skip_to, trim, turn_replied};
-ghost use Rattle.call_plan.specs.Stages.{Asks, Ends, Go, led};
+ghost use Rattle.call_plan.specs.Table.{chunks_for, commit, got, grant, grow, need_chunks, skip_to, trim, turn_replied};
+ghost use Rattle.call_plan.specs.Stages.{Asks, Go, led};
 
 use crate::{Answered, AskPoint, Given, Lead, TurnPoint, Wish};
 use space_model::{CHUNK_PAGES, MAX_SERIES, Reply, Span};
@@ -119,10 +119,13 @@ impl Wish {
         }
     }
 
-    /// The answer is the region at the address.
-    fn region(self, addr: u64) -> Lead
-        ensures { led result None ≡ Ends (Answered.Ok (Given.Region addr self.class)) }
+    /// The region at the address is the answer, or takes the place of the one in hand.
+    fn got(self, addr: u64) -> Lead
+        ensures { led result None ≡ got self addr }
     {
+        if self.moves {
+            return Lead::More;
+        }
         let class = self.class;
         Lead::Ends(Answered::Ok(Given::Region { addr, class }))
     }
@@ -132,7 +135,7 @@ impl Wish {
         ensures { (span : Span) → led result None ≡ turn_replied (TurnPoint.Landing self span) reply.now }
     {
         match *reply {
-            Reply::Landed { first, .. } => self.region(first),
+            Reply::Landed { first, .. } => self.got(first),
             _ => Lead::Nowhere,
         }
     }
@@ -143,7 +146,7 @@ impl Wish {
     {
         match *reply {
             Reply::Regions(ref addrs) => match addrs.as_slice().first() {
-                Some(addr) => self.region(*addr),
+                Some(addr) => self.got(*addr),
                 None => Lead::Nowhere,
             },
             Reply::Nothing => Lead::Turns(TurnPoint::Looking(self)),

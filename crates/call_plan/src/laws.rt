@@ -1,7 +1,8 @@
 //! Laws of calls, as contracts of functions that do nothing.
 #![tactic(auto, using(crate::proofs::Proved::laws))]
 
-ghost use Rattle.call_plan.specs.Laws.{BatchesKnow, BeginsKnow, KnowledgeIsOwn, RunsEndOnce, StepsKeep, WantsStand};
+ghost use Rattle.call_plan.specs.Clients.{BatchesEnd, BatchesRise};
+ghost use Rattle.call_plan.specs.Laws.{BatchesKnow, BeginsKnow, KnowledgeIsOwn, MovesKnow, StepsKeep, WantsStand};
 ghost use Rattle.call_plan.specs.Rooms.{RoomsSuffice};
 ghost use Rattle.call_plan.specs.Bounds.{AsksAreFew, FreesAreFew, MallocsAreShort, PurgesAreFew};
 ghost use Rattle.call_plan.specs.Refusals.{RefusalsStand};
@@ -19,6 +20,12 @@ pub fn batches_know()
     ensures { BatchesKnow }
 {}
 
+/// Where another region is to take the place of one that can't be resized where it is, the call knows what it has to, whether a
+/// cached region does or one is got.
+pub fn moves_know()
+    ensures { MovesKnow }
+{}
+
 /// Every turn that a call wants may stand in the space of its arena, whatever others did meanwhile, and whatever chunk of
 /// another arena is found.
 pub fn wants_stand()
@@ -34,11 +41,6 @@ pub fn steps_keep()
 /// What a call knows is of its client's own alone, so it stands as long as that does.
 pub fn knowledge_is_own()
     ensures { KnowledgeIsOwn }
-{}
-
-/// What a call was fed decides its answer and what its client then has, and nothing comes behind that.
-pub fn runs_end_once()
-    ensures { RunsEndOnce }
 {}
 
 /// A malloc that has ended made at most 5 asks and 8 turns.
@@ -86,4 +88,14 @@ pub fn memaligns_are_aligned()
 /// the turns without memory that follow it.
 pub fn rooms_suffice()
     ensures { RoomsSuffice }
+{}
+
+/// The addresses of a batch rise, and each is that of one of the regions in its arena.
+pub fn batches_rise()
+    ensures { BatchesRise }
+{}
+
+/// Once a batch went back, fewer regions are to go.
+pub fn batches_end()
+    ensures { BatchesEnd }
 {}

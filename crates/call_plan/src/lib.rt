@@ -6,25 +6,31 @@
 #![tactic(auto)]
 
 mod asks;
+mod batches;
 mod begins;
 mod calls;
+mod clients;
 mod desks;
 mod gets;
 mod laws;
 mod needs;
 mod points;
 mod puts;
+mod reallocs;
+mod resizes;
 mod settings;
 mod turns;
 
+pub use batches::Batch;
 pub use calls::{Call, Stage};
+pub use clients::{Desk, Swapped};
 pub use laws::{
-    answers_have_causes, asks_are_few, batches_know, begins_know, frees_are_few, knowledge_is_own,
-    mallocs_are_short, memaligns_are_aligned, purges_are_few, refusals_stand, rooms_suffice,
-    runs_end_once, steps_keep, wants_stand,
+    answers_have_causes, asks_are_few, batches_end, batches_know, batches_rise, begins_know,
+    frees_are_few, knowledge_is_own, mallocs_are_short, memaligns_are_aligned, moves_know,
+    purges_are_few, refusals_stand, rooms_suffice, steps_keep, wants_stand,
 };
 pub use needs::{Answered, Given, Item, Need, Request, Turn};
-pub use points::{AskPoint, Change, Lead, Then, TurnPoint, Visit, Wish};
+pub use points::{AskPoint, Change, Lead, Resize, Then, TurnPoint, Visit, Wish};
 
 #[cfg(test)]
 mod tests;

@@ -18,6 +18,14 @@ pub enum Request {
         /// The bytes.
         size: u64,
     },
+    /// `realloc`: a region that the client holds is to have at least so many bytes, where 0 counts as 1. It stays where it is as
+    /// long as it has the class, or where a large one can be cut or widened in place, and else another region takes its place.
+    Realloc {
+        /// The address of its first byte.
+        addr: u64,
+        /// The bytes.
+        size: u64,
+    },
     /// `free`: the client gives a region back that it holds.
     Free {
         /// The address of its first byte.
@@ -109,6 +117,33 @@ pub enum Request {
         /// The limit in chunks, from 1 to 16384.
         chunks: u64,
     },
+    /// `mallocx` with an explicit cache: as `Malloc` with the client's cache on, in the cache with the identifier.
+    MallocIn {
+        /// The identifier.
+        slot: u32,
+        /// The bytes.
+        size: u64,
+    },
+    /// `dallocx` with an explicit cache: as `Free` of a region that the client holds with its cache on, in the cache with the
+    /// identifier.
+    FreeIn {
+        /// The identifier.
+        slot: u32,
+        /// The address of its first byte.
+        addr: u64,
+    },
+    /// `tcache.create`: the client has one more explicit cache, of at most eight.
+    NewCache,
+    /// `tcache.flush`: all regions of the explicit cache go back.
+    FlushCache {
+        /// The identifier.
+        slot: u32,
+    },
+    /// `tcache.destroy`: all regions of the explicit cache go back, and then it goes.
+    EndCache {
+        /// The identifier.
+        slot: u32,
+    },
 }
 
 /// One turn of an arena.
@@ -165,6 +200,8 @@ pub enum Given {
     Done,
     /// An arena, by its index.
     Arena(u32),
+    /// An explicit cache, by its identifier.
+    Cache(u32),
     /// How many pages of unused extents may stay, where the moment had come to tell.
     Limits {
         /// The dirty pages.
@@ -211,4 +248,8 @@ pub enum Answered {
     ArenasFull,
     /// Arena 0 can't be reset or destroyed.
     Automatic,
+    /// The client has no explicit cache with the identifier.
+    NoCache(u32),
+    /// The client has eight explicit caches.
+    CachesFull,
 }

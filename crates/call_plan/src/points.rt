@@ -14,6 +14,19 @@ pub struct Wish {
     pub class: u8,
     /// How many regions of the class.
     pub count: u32,
+    /// Whether the region that is handed out takes the place of the one in hand, as where that can't be resized in place.
+    pub moves: bool,
+}
+
+/// A large region that is to have another large class where it is.
+#[derive(Clone, Copy)]
+pub struct Resize {
+    /// The address of its first byte.
+    pub addr: u64,
+    /// The pages that it has.
+    pub pages: u64,
+    /// The class that it is to have.
+    pub class: u8,
 }
 
 /// A purge of listed extents: of the muzzy ones, of the dirty ones, or first of those and then of these. What it gives is that
@@ -37,6 +50,8 @@ pub enum Then {
     Batches,
     /// The visit goes on, with at most so many more extents.
     Visiting(Visit, u64),
+    /// A region of the class is got, which takes the place of the one in hand.
+    Moving(u8),
 }
 
 /// What follows once a setting is changed.
@@ -99,6 +114,10 @@ pub enum TurnPoint {
         /// Whether the client that held it has published it for this call.
         published: bool,
     },
+    /// Looking for the pages that the region lacks, right behind it.
+    Widening(Resize),
+    /// The region in hand is to have fewer pages.
+    Narrowing(Resize),
 }
 
 /// A point at which a call waits for an answer of a hook, and then for the reply to the turn that takes it in.
@@ -169,6 +188,23 @@ pub enum AskPoint {
     Decommitting(Span, Then),
     /// The forced purge of one that it left committed too.
     Forcing(Span, Then),
+    /// The split of the region's extent: the low piece serves it from then on.
+    Cutting(Resize),
+    /// The alloc of the chunks that the region lacks, right behind it.
+    Extending(Resize),
+    /// The split of what stands behind the pages that the region lacks.
+    Sparing {
+        /// What is wanted.
+        resize: Resize,
+        /// The extent behind the region.
+        span: Span,
+        /// Whether it is committed.
+        committed: bool,
+    },
+    /// The commit of the pages that the region lacks.
+    Backing(Resize, Span),
+    /// The merge of the region's extent with these.
+    Joining(Resize, Span),
 }
 
 /// Where a call waits, or where an item leads. What a hook answered to an ask stands beside it.
@@ -184,6 +220,8 @@ pub enum Lead {
     Over(u32, TurnPoint),
     /// To the turn that gives the next batch of regions back, or to the end.
     More,
+    /// To a region of the class, which takes the place of the one in hand.
+    Move(u8),
     /// To the end, since the arena isn't live.
     Gone,
     /// To an answer.

@@ -87,6 +87,7 @@ impl Then {
     {
         match *self {
             Then::Batches => Lead::More,
+            Then::Moving(class) => Lead::Move(class),
             Then::Visiting(visit, 0) => visit.visited(),
             Then::Visiting(visit, left) => TurnPoint::Taking(visit, Some(left)).next(),
         }

@@ -4,12 +4,12 @@ ghost use Rattle.std.specs.Prelude.{IsTrue};
 ghost use Rattle.call_plan.specs.Needs.{IsPointOrEnd};
 ghost use Rattle.call_plan.specs.Points.{IsSizedNext};
 
-use crate::{Answered, Given, Item, Lead, Need, Request, Stage};
+use crate::{Answered, Desk, Given, Item, Lead, Need, Request, Stage};
 use hook_api::{Asked, HookShelf, Kind, RisingHooks};
 use space_model::{Ask, Op, Reply, Span};
 use std::alloc::{AllocError as NoMemory, Global};
 use std::test::Fail;
-use thread_cache::{Desk, Held};
+use thread_cache::Held;
 
 /// What a call must need next, and what comes of that.
 #[derive(Drop)]
@@ -91,7 +91,8 @@ impl Play {
         self.as_told = self.as_told && same;
         self.desk.reserve()?;
         self.stage.tell(&mut self.desk, item);
-        self.stage.feed(self.alloc, &self.request, &self.desk, item);
+        self.stage
+            .feed(self.alloc, &self.request, &mut self.desk, item);
         self.stage.close(&self.request, &mut self.desk);
         Ok(())
     }

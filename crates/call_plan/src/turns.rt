@@ -1,6 +1,7 @@
 //! Where the reply to a turn leads that takes in no answer of a hook.
 
 ghost use Rattle.std.specs.Prelude.{◌≡◌, ℕ, List, None};
+ghost use Rattle.call_plan.specs.Points.{IsSizedTurn};
 ghost use Rattle.call_plan.specs.Table.{is_marked, op_at, starved, turn_replied};
 ghost use Rattle.call_plan.specs.Stages.{led};
 
@@ -21,6 +22,7 @@ fn gave(reply: &Reply) -> Lead
 impl TurnPoint {
     /// Where the reply to the turn leads.
     pub(crate) fn turned(&self, reply: &Reply) -> Lead
+        requires { IsSizedTurn self.now }
         ensures { led result None ≡ turn_replied self.now reply.now }
     {
         match self {
@@ -44,6 +46,8 @@ impl TurnPoint {
             TurnPoint::Dooming => doomed(reply),
             TurnPoint::Publishing(_) => published(reply),
             TurnPoint::Owning { addr, frees, .. } => owned(*addr, *frees, reply),
+            TurnPoint::Widening(resize) => resize.looked(reply),
+            TurnPoint::Narrowing(resize) => resize.begun(reply),
         }
     }
 

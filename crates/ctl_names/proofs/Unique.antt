@@ -180,6 +180,6 @@ found_named name n h =
     record { row = found.0; class = class_in rows name n none rows_have_class found.0 found.1 }
 
 -- a name that is of a row is found
-pub only_found : (name : List ℕ) (n : CtlName) → n.row < 40 → IsOfRow name n → name_of name ≡ Some n
+pub only_found : (name : List ℕ) (n : CtlName) → n.row < 43 → IsOfRow name n → name_of name ≡ Some n
 unfolding name_of none
 only_found name n lt h = only_in rows name n none rows_apart lt h

@@ -79,7 +79,7 @@ name_of name = first_row 0 rows name
 abbrev pub IsOfRow : List ℕ → CtlName → Type 0
 IsOfRow name found = matched found.row (row_at found.row) name ≡ Some found
 
--- a name of one of the 40 rows, whose class is one that its row is about
+-- a name of one of the 43 rows, whose class is one that its row is about
 pub record IsName (name : CtlName) : Type 0 where
-  pub row : name.row < 40
+  pub row : name.row < 43
   pub class : name.j < class_limit (row_at name.row).on_plain

@@ -29,6 +29,9 @@ rows =
     row (codes "thread.arena") (plain.Reads reading.ThreadArena) written.Bind ∷
     row (codes "thread.tcache.enabled") (plain.Reads reading.CacheIsOn) written.Cache ∷
     row (codes "thread.tcache.flush") (plain.Acts action.Flush) written.Never ∷
+    row (codes "tcache.create") (plain.Acts action.NewCache) written.Never ∷
+    row (codes "tcache.flush") plain.Never written.FlushCache ∷
+    row (codes "tcache.destroy") plain.Never written.EndCache ∷
     row (codes "arena.<arena>.initialized") (plain.ReadsArena of_arena.IsLive) written.Never ∷
     row (codes "arena.<arenas>.decay") (plain.Acts action.Decay) written.Never ∷
     row (codes "arena.<arenas>.purge") (plain.Acts action.Purge) written.Never ∷

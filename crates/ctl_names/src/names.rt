@@ -24,7 +24,7 @@ pub enum CtlError {
 /// A name that was read: its row of the table, and the indexes in it.
 #[derive(Clone, Copy, Debug, PartialEq, Eq)]
 pub struct CtlName {
-    /// The number of its row, below 40.
+    /// The number of its row, below 43.
     pub row: u8,
     /// The index of an arena, or 4096 for all, or 4097 for those that were destroyed; 0 where the name has none.
     pub i: u32,
@@ -183,7 +183,7 @@ fn found(name: &[u8]) -> Option<CtlName>
 pub fn read(name: &[u8]) -> Result<CtlName, CtlError>
     ensures said { result ≡ ok_or (name_of name.now) CtlError.Enoent }
     ensures row { IfOk result (λ found. IsOfRow name.now found) }
-    ensures only { (found : CtlName) → found.row < 40 → IsOfRow name.now found → result ≡ Ok found }
+    ensures only { (found : CtlName) → found.row < 43 → IsOfRow name.now found → result ≡ Ok found }
     ensures named { IfOk result IsName }
 {
     match found(name) {

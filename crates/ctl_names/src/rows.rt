@@ -77,6 +77,8 @@ pub enum Action {
     Destroy,
     /// An arena is created, with box 0.
     Create,
+    /// The client has one more explicit cache.
+    NewCache,
 }
 
 /// What a plain line of a name comes to.
@@ -100,6 +102,8 @@ pub enum OnPlain {
     Acts(Action),
     /// Nothing: a value is wanted.
     Wanting,
+    /// Nothing: it may only be written.
+    Never,
 }
 
 /// What a write to a name comes to, and so what is a value of it.
@@ -129,6 +133,10 @@ pub enum OnWrite {
     Create,
     /// The arena that has an extent at the address is looked up.
     Lookup,
+    /// All regions go back that the explicit cache has.
+    FlushCache,
+    /// They go back, and then the explicit cache goes.
+    EndCache,
 }
 
 /// A row of the table: the pattern of its names, what a plain line of them comes to, and what a write comes to.
@@ -138,7 +146,7 @@ pub enum OnWrite {
 pub type Row = (&'static str, OnPlain, OnWrite);
 
 /// How many rows there are.
-pub const ROW_COUNT: usize = 40;
+pub const ROW_COUNT: usize = 43;
 
 /// The rows.
 const ROWS: [Row; ROW_COUNT] = [
@@ -162,6 +170,13 @@ const ROWS: [Row; ROW_COUNT] = [
         OnPlain::Acts(Action::Flush),
         OnWrite::Never,
     ),
+    (
+        "tcache.create",
+        OnPlain::Acts(Action::NewCache),
+        OnWrite::Never,
+    ),
+    ("tcache.flush", OnPlain::Never, OnWrite::FlushCache),
+    ("tcache.destroy", OnPlain::Never, OnWrite::EndCache),
     (
         "arena.<arena>.initialized",
         OnPlain::ReadsArena(ArenaReading::IsLive),
@@ -325,7 +340,7 @@ pub(crate) fn table() -> [Row; ROW_COUNT]
 
 /// The row of a name that was read.
 pub fn row_of(name: CtlName) -> Row
-    requires { name.row < 40 }
+    requires { name.row < 43 }
     ensures { shown result ≡ row_at name.row }
 {
     table()[name.row as usize]

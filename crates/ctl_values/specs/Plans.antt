@@ -50,6 +50,7 @@ action_step actions.Purge arena t = on_arenas upkeeps.Purge arena
 action_step actions.Reset arena t = steps.Call (requests.Reset arena)
 action_step actions.Destroy arena t = steps.Call (requests.Destroy arena)
 action_step actions.Create arena t = steps.Call (create_of 0 t)
+action_step actions.NewCache arena t = steps.Call requests.NewCache
 
 -- what a plain line comes to
 abbrev pub plain_step : OnPlain → CtlName → Times → Result CtlStep CtlError
@@ -62,6 +63,7 @@ plain_step (plain.Stat count) name t = Ok (steps.Stat (whose_of name.i) count)
 plain_step (plain.ClassStat count) name t = Ok (steps.Stat (whose_of name.i) (class_count count name.j))
 plain_step (plain.Acts action) name t = Ok (action_step action name.i t)
 plain_step plain.Wanting name t = Err Einval
+plain_step plain.Never name t = Err Eperm
 
 -- what a write of a text comes to; the arena is that of the name
 abbrev pub written_step : OnWrite → List ℕ → ℕ → Times → Result CtlStep CtlError
@@ -79,6 +81,8 @@ written_step written.GrowLimit text arena t =
 written_step written.NewDirtyTime text arena t = time_of text >>= λ ms. Ok (steps.Default rests.Dirty ms)
 written_step written.NewMuzzyTime text arena t = time_of text >>= λ ms. Ok (steps.Default rests.Muzzy ms)
 written_step written.Create text arena t = box_of text >>= λ box_no. Ok (steps.Call (create_of box_no t))
+written_step written.FlushCache text arena t = index_of text >>= λ slot. Ok (steps.Call (requests.FlushCache slot))
+written_step written.EndCache text arena t = index_of text >>= λ slot. Ok (steps.Call (requests.EndCache slot))
 written_step written.Lookup text arena t = address_of text >>= λ address. Ok (steps.Lookup address)
 
 -- what a plain line of a name comes to, or a write of a text where there is one

@@ -29,7 +29,7 @@ number_of text = value (numeral_of text)
 abbrev pub number_below : ℕ → List ℕ → Result ℕ CtlError
 number_below limit text = number_of text >>= λ n. value_if (nat_lt n limit) n
 
--- the index of an arena, below 2 ^ 32
+-- the index of an arena or the identifier of an explicit cache, below 2 ^ 32
 abbrev pub index_of : List ℕ → Result ℕ CtlError
 index_of text = number_below 4294967296 text
 

@@ -63,6 +63,7 @@ fn action_step(action: Action, arena: u32, times: Times) -> CtlStep
         Action::Reset => CtlStep::Call(Request::Reset { arena }),
         Action::Destroy => CtlStep::Call(Request::Destroy { arena }),
         Action::Create => CtlStep::Call(create(0, times)),
+        Action::NewCache => CtlStep::Call(Request::NewCache),
     }
 }
 
@@ -84,6 +85,7 @@ fn plain_step(on_plain: OnPlain, name: CtlName, times: Times) -> Result<CtlStep,
         OnPlain::ClassStat(count) => CtlStep::Stat(whose(i), class_count(count, j)),
         OnPlain::Acts(action) => action_step(action, i, times),
         OnPlain::Wanting => return Err(CtlError::Einval),
+        OnPlain::Never => return Err(CtlError::Eperm),
     })
 }
 
@@ -92,7 +94,7 @@ fn plain_step(on_plain: OnPlain, name: CtlName, times: Times) -> Result<CtlStep,
 ///
 /// # Errors
 ///
-/// `Eperm` where a text is written and nothing may be; else `Einval` where the text is no value of its kind, or where a
+/// `Eperm` where a text is written and nothing may be, or none is and one has to be written; else `Einval` where the text is no value of its kind, or where a
 /// value is wanted and none is given.
 pub fn plan(name: CtlName, wish: Wish, times: Times) -> Result<CtlStep, CtlError>
     requires name { IsName name }

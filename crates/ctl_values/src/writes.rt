@@ -74,5 +74,11 @@ pub(crate) fn written_step(
         OnWrite::NewMuzzyTime => CtlStep::Default(Rest::Muzzy, time_in(text)?),
         OnWrite::Create => CtlStep::Call(create(box_in(text)?, times)),
         OnWrite::Lookup => CtlStep::Lookup(address_in(text)?),
+        OnWrite::FlushCache => CtlStep::Call(Request::FlushCache {
+            slot: index_in(text)?,
+        }),
+        OnWrite::EndCache => CtlStep::Call(Request::EndCache {
+            slot: index_in(text)?,
+        }),
     })
 }

@@ -1,9 +1,20 @@
 -- The laws of the clients of a heap, and that the clients of a new one rest.
 use Rattle.heap_core.proofs.Words.{AreArenas, ◌≡◌, ℕ, ◌+◌, ◌<◌, ◌≤◌, ◌==◌, true, false, cond, List, [], All, refl, sym, ap, subst, arith, suc, zero, get_or, replicate, count_by, range_with_len, nat_tests, All-nil, absent_space, first_space, Mine, mine, Held, no_record, opening_records, mine_in, Record, opening_space, OpeningSits, is_region, is_in, cases_lt, inl, inr, rules, ◌≢◌, ◌*◌, ◌&&◌, ◌||◌, Bool, IsTrue, ◌∷◌, Option, None, Some, length, max, ◌∙◌, lt-ltb, list_any, get_or-set_same, All-cons, sum_by-cons, Publish, holds_at, is_live, emptied_by_op, room_after, room_of, not_holding, Request, Flush, Wish, Then, Change, TurnPoint, Filling, Looking, Landing, Giving, Resetting, Destroying, Publishing, AskPoint, Skipping, Point, Turns, Asks, Tells, Next, Go, Op, Setting, Space, Part, Span, DeskFacts, BatchFacts, held_at, CallFacts, Alone, Flies, Gets, GivesBack, HasOffered, Idle, Knows, KnowsAsk, KnowsTurn, HasPair, is_held, KnowsNext, Ready, flying, needed_at, batch_goes, stage, batches-know, live_where, region_found, IsArenas, record_after, record_at, room_in, CanTurn, IsIdle, after_turn, AimsSit, HasRegions, HoldersPublish, IsSeated, IsTheHand, Sits, SitsAt, Suits, SuitsAsk, SuitsChange, SuitsGet, SuitsThen, SuitsTurn, or-false}
+use Rattle.sits.specs.Sitting.{IsInClasses}
+use Rattle.call_plan.proofs.Lists.{any_weaker}
+use Rattle.call_plan.proofs.Words.{both_true}
+use Rattle.call_plan.specs.Knows.{IsResize, Narrows, Widens, is_held_of}
+use Rattle.call_plan.specs.Runs.{gives as given}
+use Rattle.call_plan.specs.declared.points.Resize.{Resize}
+use Rattle.call_plan.specs.declared.points.TurnPoint.TheVariants.{Widening, Narrowing}
+use Rattle.call_plan.specs.declared.points.AskPoint.TheVariants.{Cutting, Extending, Sparing, Backing, Joining}
+use Rattle.sits.specs.Suits.{IsTheLarge, SuitsResize}
+use Rattle.space_model.proofs.Lists.{counted_any}
+use Rattle.space_model.specs.declared.parts.Region.{Region as SpaceRegion}
 use Rattle.sits.proofs.Having.{IsKeyed, drop_over, drop_shaped}
 use Rattle.heap_core.proofs.Turned.{opening_at}
 use Rattle.call_plan.proofs.Own.{Nothing}
-use Rattle.heap_core.proofs.Clients.{asks-lead_on, asks-sit, known_is, sound_at, starts-sit}
+use Rattle.heap_core.proofs.Clients.{asks-lead_on, asks-sit, known_is, sound_at}
 use Rattle.sits.proofs.Counting.{as_many}
 use Rattle.sits.proofs.Indexes.{at_or_else, by_arena, past}
 use Rattle.sits.proofs.Hands.{had_counts, hands_part, held_is}
@@ -17,8 +28,8 @@ use Rattle.sits.proofs.Turns.{count_else, count_here, still_bound, was_bound}
 abbrev held_as : List (ℕ × Held) → DeskFacts → DeskFacts
 held_as held desk = record desk { held = held }
 
-get_held : (held : List (ℕ × Held)) (desk : DeskFacts) (arena class count : ℕ) → SuitsGet desk arena class count → SuitsGet (held_as held desk) arena class count
-get_held held desk arena class count suits = record { empty = suits.empty; own = suits.own; slots = suits.slots }
+get_held : (held : List (ℕ × Held)) (desk : DeskFacts) (arena : ℕ) (moves : Bool) (class count : ℕ) → SuitsGet desk arena moves class count → SuitsGet (held_as held desk) arena moves class count
+get_held held desk arena moves class count suits = record { empty = suits.empty; none = suits.none; own = suits.own; slots = suits.slots }
 
 later_held : (held : List (ℕ × Held)) (desk : DeskFacts) (later : Then) → SuitsThen desk later → SuitsThen (held_as held desk) later
 later_held held desk later suits = grind arith
@@ -41,11 +52,12 @@ suits_held held desk request arena point suits = grind (arith, turn_held, ask_he
 pub record Alike (m m' : Mine) : Type 0 where
   pub flights : m'.flights ≡ m.flights
   pub offers : m'.offers ≡ m.offers
+  pub trims : m'.trims ≡ m.trims
   pub bound : m'.bound ≡ m.bound
   pub dying : m'.dying ≡ m.dying
 
 idle_again : (m m' : Mine) → Alike m m' → Idle m → Idle m'
-idle_again m m' alike idle = record { flights = alike.flights ∙ idle.flights; offers = alike.offers ∙ idle.offers }
+idle_again m m' alike idle = record { flights = alike.flights ∙ idle.flights; calm = (alike.offers ∙ idle.calm.0, alike.trims ∙ idle.calm.1) }
 
 module _ (records : List Record) (c arena : ℕ) (desk : DeskFacts) (request : Request) (m : Mine) (owns : Owns true records c [] desk) (alike : Alike m (mine_in records c arena)) (others : (i : ℕ) → i ≢ arena → Idle (mine_in records c i)) where
   abbrev m' : Mine
@@ -57,7 +69,7 @@ module _ (records : List Record) (c arena : ℕ) (desk : DeskFacts) (request : R
   ready : Idle m → (next : Next) → Ready m' desk (stage arena next)
   ready idle next = is_ready records c desk (stage arena next) owns (all_idle (idle_again m m' alike idle))
 
-  gets_again : (wish : Wish) (count : ℕ) → SuitsGet desk arena wish.class count → Gets m wish → Gets m' wish
+  gets_again : (wish : Wish) (count : ℕ) → SuitsGet desk arena wish.moves wish.class count → Gets m wish → Gets m' wish
   gets_again wish count suits gets = record {
     is = gets.is;
     served = ap (λ v. v || list_any (λ _. true) m'.regions) (subst (λ n. (mine_in records c n).bound ≡ true) (sym suits.own) owns.bound);
@@ -79,12 +91,40 @@ module _ (records : List Record) (c arena : ℕ) (desk : DeskFacts) (request : R
   gives_again addrs suits gives =
       let batch : BatchFacts = record { arena = arena; addrs = addrs } in
       let at : Next = Go (Turns (Giving addrs)) in
-      let know : Ready m' desk (batch_goes arena (Some batch)) → KnowsNext m' at = subst (λ o. Ready m' desk (batch_goes arena o) → KnowsNext m' (batch_goes arena o).next) suits (batches-know m' request desk arena) in
+      let know : Ready m' desk (batch_goes arena (given request desk) (Some batch)) → KnowsNext m' at = subst (λ o. Ready m' desk (batch_goes arena (given request desk) o) → KnowsNext m' (batch_goes arena (given request desk) o).next) suits (batches-know m' request desk arena) in
       know (ready gives.idle at)
+
+  in_hand_again : (r : Held) → desk.hand ≡ Some r → r.arena ≡ arena → is_held_of m' r.addr r.class ≡ true
+  in_hand_again r e home =
+      subst (λ i. is_held_of (mine_in records c i) r.addr r.class ≡ true) home
+      (counted_any (is_region r.addr r.class) (mine_in records c r.arena).regions (had_counts (count_in records c) desk r owns.hands (inr (inr e)) owns.shaped))
 
   hand_again : (addr : ℕ) (hand : Option Held) → desk.hand ≡ hand → IsTheHand arena addr hand → Idle m → is_held m' addr ≡ true
   hand_again addr None e is idle = absurd is
-  hand_again addr (Some r) e is idle = subst (λ a. is_held m' a ≡ true) is.0 ((ready idle (Go (Turns (Publishing addr)))).holds r (inr (inr e)) (sym is.1))
+  hand_again addr (Some r) e is idle =
+      subst (λ a. is_held m' a ≡ true) is.0
+      (any_weaker (λ (q : SpaceRegion). q.addr == r.addr && q.class == r.class) (λ (q : SpaceRegion). q.addr == r.addr) m'.regions (λ q h. (both_true (q.addr == r.addr) _ h).0) (in_hand_again r e is.1))
+
+  -- the region in hand is held in the arena
+  resize_again : (resize : Resize) → SuitsResize desk arena resize → IsResize m resize → IsResize m' resize
+  resize_again resize suits is = by desk.hand refl suits.0
+    where
+      by : (hand : Option Held) → desk.hand ≡ hand → IsTheLarge arena resize hand → IsResize m' resize
+      by None e own = absurd own
+      by (Some r) e own = record {
+        class = r.class;
+        held = subst (λ a. is_held_of m' a r.class ≡ true) own.0 (in_hand_again r e own.1);
+        large = own.2;
+        pages = own.3;
+        to_large = is.to_large;
+        below = is.below;
+      }
+
+  widens_again : (resize : Resize) → SuitsResize desk arena resize → Widens m resize → Widens m' resize
+  widens_again resize suits (is, more) = (resize_again resize suits is, more)
+
+  narrows_again : (resize : Resize) → SuitsResize desk arena resize → Narrows m resize → Narrows m' resize
+  narrows_again resize suits (is, fewer) = (resize_again resize suits is, fewer)
 
   turn_again : (point : TurnPoint) → SuitsTurn desk request arena point → KnowsTurn m point → KnowsTurn m' point
   turn_again (Filling wish count) suits knows = (gets_again wish count suits.0 knows.0, idle_again m m' alike knows.1, knows.2, knows.3)
@@ -96,10 +136,17 @@ module _ (records : List Record) (c arena : ℕ) (desk : DeskFacts) (request : R
   turn_again (Destroying cached) suits knows =
       (idle_again m m' alike knows.0, (let few = (ready knows.0 (Go (Turns (Destroying cached)))).cached in omega (arith, few, suits.1)))
   turn_again (Publishing addr) suits knows = (idle_again m m' alike knows.0, hand_again addr desk.hand refl suits knows.0)
+  turn_again (Widening resize) suits knows = (idle_again m m' alike knows.0, widens_again resize suits knows.1)
+  turn_again (Narrowing resize) suits knows = (idle_again m m' alike knows.0, narrows_again resize suits knows.1)
   turn_again point suits knows = let idle = idle_again m m' alike in first_of (search (rules, flies_again), grind (arith, flies_again))
 
   ask_again : (point : AskPoint) → SuitsAsk desk arena point → KnowsAsk m point → KnowsAsk m' point
   ask_again (Skipping wish span b skip) suits knows = (gets_again wish wish.count suits knows.0, alone_again span b knows.1, knows.2, knows.3)
+  ask_again (Cutting resize) suits knows = (alike.flights ∙ knows.0, alike.offers ∙ knows.1, alike.trims ∙ knows.2, narrows_again resize suits knows.3)
+  ask_again (Extending resize) suits knows = (idle_again m m' alike knows.0, widens_again resize suits knows.1)
+  ask_again (Sparing resize span b) suits knows = (widens_again resize suits knows.0, alone_again span b knows.1, knows.2, knows.3)
+  ask_again (Backing resize span) suits knows = (widens_again resize suits knows.0, alone_again span false knows.1, knows.2, knows.3)
+  ask_again (Joining resize span) suits knows = (widens_again resize suits knows.0, alone_again span true knows.1, knows.2, knows.3)
   ask_again point suits knows = let idle = idle_again m m' alike in search (rules, gets_again, alone_again, flies_again, pair_again, offered_again)
 
   pub knows_again : (point : Point) → Suits desk request arena point → Knows m point → Knows m' point
@@ -167,7 +214,7 @@ module _ (records : List Record) (c : ℕ) (region : Held) (desk : DeskFacts) (i
   -- what the client owns in any arena but for its regions
   alike : (i : ℕ) → Alike (mine_in records c i) (mine_in rest c i)
   alike i = by_arena records region.arena (record_after (record_at records region.arena) c op None) (λ n (r : Record). Alike (mine_in records c n) (mine c r.space)) is.number low
-      (record { flights = refl; offers = refl; bound = refl; dying = refl }) (λ n other. record { flights = refl; offers = refl; bound = refl; dying = refl }) i
+      (record { flights = refl; offers = refl; trims = refl; bound = refl; dying = refl }) (λ n other. record { flights = refl; offers = refl; trims = refl; bound = refl; dying = refl }) i
 
   more_room : (i : ℕ) → room_in records i c ≤ room_in rest i c
   more_room i = by_arena records region.arena new (λ n (r : Record). room_in records n c ≤ room_of c r.rooms) is.number low here (λ n other. omega arith) i
@@ -205,6 +252,8 @@ module _ (records : List Record) (c : ℕ) (region : Held) (desk : DeskFacts) (i
     has = owns_has rest c less owns_less;
     idle = λ i. idle_again (mine_in records c i) (mine_in rest c i) (alike i) (rests.idle i);
     empty = rests.empty;
+    gained = rests.gained;
+    own = rests.own;
   }
   seated_less (Some call) sits = (sits.0, sits_at_less call call.stage.next sits.1)
 
@@ -230,6 +279,7 @@ aims-sit records c addr arena arena' desk request low sits = grind arith
 pub record IsEmpty (m : Mine) : Type 0 where
   pub flights : m.flights ≡ []
   pub offers : m.offers ≡ []
+  pub trims : m.trims ≡ false
   pub regions : m.regions ≡ []
 
 -- a new heap has nothing
@@ -241,7 +291,7 @@ opening_empty c i =
     ]
   where
     at : (j : ℕ) → IsEmpty (mine c (opening_space j))
-    at j = elim (j == 0) as (λ v. IsEmpty (mine c (cond v first_space absent_space))) [ true ↦ record { flights = refl; offers = refl; regions = refl } | false ↦ record { flights = refl; offers = refl; regions = refl } ]
+    at j = elim (j == 0) as (λ v. IsEmpty (mine c (cond v first_space absent_space))) [ true ↦ record { flights = refl; offers = refl; trims = refl; regions = refl } | false ↦ record { flights = refl; offers = refl; trims = refl; regions = refl } ]
 
 -- each of the clients is bound to arena 0
 is_among : (low n c : ℕ) → low ≤ c → c < low + n → is_in c (range_with_len low n) ≡ true
@@ -260,12 +310,15 @@ opening-sits c few = record {
     keyed = All-nil IsKeyed;
     lists = refl;
     classed = λ k. subst (All (λ (r : Held). r.class ≡ k)) (sym (none_cached 41 k)) (All-nil (λ (r : Held). r.class ≡ k));
+    places = All-nil IsInClasses;
     arena = omega arith;
     bound = is_among 0 32 c (omega arith) (omega (arith, few));
   };
-  idle = λ i. record { flights = (opening_empty c i).flights; offers = (opening_empty c i).offers };
+  idle = λ i. record { flights = (opening_empty c i).flights; calm = ((opening_empty c i).offers, (opening_empty c i).trims) };
   empty = refl;
+  gained = refl;
+  own = refl;
 }
 
 -- the laws that a contract finds by their names
-pub ruleset laws = (asks-lead_on, starts-sit, asks-sit, aims-sit)
+pub ruleset laws = (asks-lead_on, asks-sit, aims-sit)

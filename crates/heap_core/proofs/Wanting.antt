@@ -1,5 +1,15 @@
 -- What a client's open call wants, and where a step for it leads.
 use Rattle.heap_core.proofs.Words.{◌≡◌, ◌≤◌, ℕ, ◌+◌, true, false, List, Option, None, Some, IfSome, IsSomeAnd, refl, sym, ap, subst, ◌∙◌, arith, opens, Item, Told, Starved, Answered, NoMemory, Point, Next, Go, Ends, Op, Ask, AskFacts, DeskFacts, Need, NeedsTurn, NeedsAsk, Turn, CallFacts, moment_of, desk_fed, Goes, NeedIs, NeedsWant, heard_next, Moment, Stage, after, moved, named, named_call, moment_at, begins_named, not_holding, option_map, aimed, taken_next, step_next, Want, WantTurn, WantAsk, is_marked, step, want, room_in, FedTo, never_starves, HeapFacts, asks_at, asks_next, owing, Record, Seat, answer_of, heard_by, seat_at, seat_of, IsSeated, SeatSound, Sits, SitsAt, IsMarked, Needs, StarvesAt, StarvesNext, TakesAt, nat_tests, Request, Replied, Filling, Skipping, Turns, Asks, Over, Nothing, begin, begin_desk, begin_stage, closed, stage, Held, HasRoomToHold, started, ended_by, open_call}
+use Rattle.std.specs.Prelude.{Result, Ok, Err, OnOk, OnErr}
+use Rattle.call_plan.specs.Desks.{meant, ready}
+use Rattle.std.proofs.lemmas.Bool.{cond_both}
+use Rattle.std.specs.Prelude.{◌==◌, ◌^◌, nat_lt}
+use Rattle.call_plan.specs.Desks.{flushes}
+use Rattle.call_plan.specs.Runs.{all_goes, are_large, batch_goes, begin_realloc, begin_resize, desk_moved, get, gives, move_stage, resize_at, share}
+use Rattle.call_plan.specs.Stages.{More, Move, Gone, Nowhere}
+use Rattle.call_plan.specs.declared.needs.Request.TheVariants.{Realloc}
+use Rattle.size_classes.specs.Classes.{class_for}
+use Rattle.call_plan.specs.Clients.{BatchFacts, batch_of, going, held_at, hit, resizing}
 
 -- ---- the point of an open call
 
@@ -167,10 +177,38 @@ next_opens next item = grind (arith, nat_tests)
 
 -- ---- what the call of a client may ask then
 
+-- nothing where a turn comes first that takes memory
+owed_started : (records : List Record) (c n : ℕ) (request : Request) (desk : DeskFacts) (arena : ℕ) (next : Next) → asks_next (room_in records arena c) next ≡ 0 →
+    owing records c (seat_of c (closed request desk (stage arena next))).call ≤ n
+owed_started records c n request desk arena next none = grind arith
+
+batch_asks : (room arena : ℕ) (gained : Option Held) (batch : Option BatchFacts) → asks_next room (batch_goes arena gained batch).next ≡ 0
+batch_asks room arena gained batch = grind arith
+
+get_asks : (room class count : ℕ) → asks_next room (get true class 1 count) ≡ 0
+get_asks room class count = grind (arith, nat_tests)
+
+-- nor where regions go back, or another one takes the place of the one in hand
+owed_goes : (records : List Record) (c n : ℕ) (request : Request) (desk : DeskFacts) (arena : ℕ) → owing records c (seat_of c (closed request desk (all_goes request desk arena))).call ≤ n
+owed_goes records c n request desk arena =
+    let at : Stage = all_goes request desk arena in
+    owed_started records c n request desk at.arena at.next (batch_asks (room_in records at.arena c) arena (gives request desk) (batch_of (going (flushes request) desk)))
+
+owed_move : (records : List Record) (c n : ℕ) (request : Request) (desk : DeskFacts) (arena class : ℕ) (found : Option Held) →
+    owing records c (seat_of c (closed request (desk_moved class found desk) (move_stage request arena class found desk))).call ≤ n
+owed_move records c n request desk arena class None = owed_started records c n request desk desk.arena (get true class 1 (share class desk)) (get_asks (room_in records desk.arena c) class (share class desk))
+owed_move records c n request desk arena class (Some region) = owed_goes records c n request (desk_moved class (Some region) desk) arena
+
 -- nothing where it has ended, and what is enough for its room where it goes on
 owed_moved : (records : List Record) (c n : ℕ) (request : Request) (desk : DeskFacts) (arena : ℕ) (next : Next) → room_in records arena c + 1 ≤ n → OverOpens next →
     owing records c (seat_of c (moved request desk arena next)).call ≤ n
-owed_moved records c n request desk arena next enough opens = grind (arith, few_asks)
+owed_moved records c n request desk arena (Go point) enough opens = omega (arith, enough, few_asks (room_in records arena c) point)
+owed_moved records c n request desk arena (Over index point) enough opens = omega (arith, opens (room_in records index c))
+owed_moved records c n request desk arena More enough opens = owed_goes records c n request desk arena
+owed_moved records c n request desk arena (Move class) enough opens = owed_move records c n request desk arena class (hit class desk)
+owed_moved records c n request desk arena Gone enough opens = omega arith
+owed_moved records c n request desk arena (Ends answer) enough opens = omega arith
+owed_moved records c n request desk arena Nowhere enough opens = omega arith
 
 pub owed_after : (records : List Record) (c n : ℕ) (at : Moment) (item : Item) → room_in records at.stage.arena c + 1 ≤ n → owing records c (seat_of c (after at item)).call ≤ n
 owed_after records c n at item enough =
@@ -178,25 +216,42 @@ owed_after records c n at item enough =
 
 -- ---- where a call begins
 
+resize_starts : (room : ℕ) (request : Request) (class : ℕ) (region : Held) (desk : DeskFacts) → asks_next room (begin_resize request class region desk).next ≡ 0
+resize_starts room request class region desk =
+    cond_both (class == region.class) _ _ (λ (at : Stage). asks_next room at.next ≡ 0) (λ _. refl)
+    (λ _. cond_both (are_large class region.class) _ _ (λ (at : Stage). asks_next room at.next ≡ 0) (λ _. at_starts class region) (λ _. move_starts (hit class desk)))
+  where
+    at_starts : (class : ℕ) (region : Held) → asks_next room (Go (Turns (resize_at class region))) ≡ 0
+    at_starts class region = cond_both (nat_lt class region.class) _ _ (λ point. asks_next room (Go (Turns point)) ≡ 0) (λ _. refl) (λ _. refl)
+
+    move_starts : (found : Option Held) → asks_next room (move_stage request region.arena class found desk).next ≡ 0
+    move_starts None = get_asks room class (share class desk)
+    move_starts (Some hit) =
+        let now : DeskFacts = desk_moved class (Some hit) desk in batch_asks room region.arena (gives request now) (batch_of (going (flushes request) now))
+
+realloc_starts : (room addr size : ℕ) (held : Option Held) (desk : DeskFacts) → asks_next room (begin_realloc addr size held desk).next ≡ 0
+realloc_starts room addr size None desk = refl
+realloc_starts room addr size (Some region) desk =
+    cond_both (nat_lt (2 ^ 35) size) _ _ (λ (at : Stage). asks_next room at.next ≡ 0) (λ _. refl) (λ _. resize_starts room (Realloc addr size) (class_for size) region (resizing addr region desk))
+
 -- a turn comes first that takes memory
 begin_starts : (room : ℕ) (request : Request) (desk : DeskFacts) → asks_next room (begin_stage request desk).next ≡ 0
+begin_starts room (Realloc addr size) desk = realloc_starts room addr size (held_at addr desk) desk
 begin_starts room request desk = grind (arith, nat_tests)
-
-owed_started : (records : List Record) (c n : ℕ) (request : Request) (desk : DeskFacts) (arena : ℕ) (next : Next) → asks_next (room_in records arena c) next ≡ 0 →
-    owing records c (seat_of c (closed request desk (stage arena next))).call ≤ n
-owed_started records c n request desk arena next none = grind arith
 
 pub owed_begun : (records : List Record) (c n : ℕ) (request : Request) (desk : DeskFacts) → owing records c (seat_of c (begin request desk)).call ≤ n
 owed_begun records c n request desk =
-    let at = begin_stage request desk in
-    owed_started records c n request (begin_desk request desk) at.arena at.next (begin_starts (room_in records at.arena c) request desk)
+    let asked : Request = meant request desk in
+    let now : DeskFacts = ready request desk in
+    let at = begin_stage asked now in
+    owed_started records c n asked (begin_desk asked now) at.arena at.next (begin_starts (room_in records at.arena c) asked now)
 
 -- ---- what is kept of a call that was fed
 
 -- a call that is kept has room for the region that it may get
-pub room_kept : (c room : ℕ) (hand : Option Held) (at : Moment) (next : Next) (kept : Option CallFacts) → kept ≡ open_call c at next → HasRoomToHold hand room at.stage.next →
-    IfSome kept (λ call. HasRoomToHold hand room call.stage.next)
-room_kept c room hand at next kept is has = grind arith
+pub room_kept : (c room : ℕ) (desk : DeskFacts) (at : Moment) (next : Next) (kept : Option CallFacts) → kept ≡ open_call c at next → HasRoomToHold desk room at.stage.next →
+    IfSome kept (λ call. HasRoomToHold desk room call.stage.next)
+room_kept c room desk at next kept is has = grind arith
 
 -- ---- a call with the regions named that go back next
 
@@ -209,11 +264,40 @@ named_ends desk call = grind arith
 
 -- a call that began in a free place is kept there while it is open
 pub started_open : (c : ℕ) (request : Request) (had desk : DeskFacts) → option_map (named_call desk) (started c (begin request had) None (begin request had).stage.next) ≡ open_call c (begin request had) (begin request had).stage.next
-started_open c request had desk = by (begin_stage request had) (begins_named request had desk)
+started_open c request had desk = by (meant request had) (ready request had) (begin_stage (meant request had) (ready request had)) (begins_named (meant request had) (ready request had) desk)
   where
-    by : (at : Stage) → named request desk at ≡ at →
+    by : (request : Request) (had : DeskFacts) (at : Stage) → named request desk at ≡ at →
         option_map (named_call desk) (started c (closed request (begin_desk request had) at) None at.next) ≡ open_call c (closed request (begin_desk request had) at) at.next
-    by at same = grind arith
+    by request had at same = grind arith
+
+-- a place is free where no call is read in it
+none_read : (desk : DeskFacts) (place : Option CallFacts) → option_map (named_call desk) place ≡ None → place ≡ None
+none_read desk None e = refl
+none_read desk (Some call) e = absurd (cc)
+
+-- where a call began in a free place, its client is as it has to be read then
+pub start_seat : {A E : Type 0} (told : Result A E) (c : ℕ) (request : Request) (had seen desk : DeskFacts) (was place : Option CallFacts) → had ≡ seen → option_map (named_call had) was ≡ None →
+    OnOk told (place ≡ started c (begin request had) was (begin request had).stage.next) → OnOk told (desk ≡ (begin request had).desk) →
+    OnOk told (record { desk = desk; call = option_map (named_call desk) place } ≡ seat_of c (begin request seen))
+start_seat (Err error) c request had seen desk was place same free began left = tt
+start_seat (Ok told) c request had seen desk was place same free began left =
+    ap (λ p. record { desk = desk; call = option_map (named_call desk) p }) (began ∙ ap (λ w. started c (begin request had) w (begin request had).stage.next) (none_read had was free))
+    ∙ ap (λ call. record { desk = desk; call = call }) (started_open c request had desk)
+    ∙ ap (λ (d : DeskFacts). record { desk = d; call = open_call c (begin request had) (begin request had).stage.next }) left
+    ∙ ap (λ (d : DeskFacts). seat_of c (begin request d)) same
+
+-- and has the room that its call wants
+pub start_room : {A E : Type 0} (told : Result A E) (c room : ℕ) (request : Request) (had desk : DeskFacts) (was place : Option CallFacts) → option_map (named_call had) was ≡ None →
+    OnOk told (place ≡ started c (begin request had) was (begin request had).stage.next) → OnOk told (HasRoomToHold desk room (begin request had).stage.next) → OnErr told (place ≡ was) →
+    IfSome place (λ call. HasRoomToHold desk room call.stage.next)
+start_room (Err error) c room request had desk was place free began has left =
+    subst (λ p. IfSome p (λ call. HasRoomToHold desk room call.stage.next)) (sym (left ∙ none_read had was free)) tt
+start_room (Ok told) c room request had desk was place free began has left =
+    subst (λ p. IfSome p (λ call. HasRoomToHold desk room call.stage.next)) (sym (began ∙ ap (λ w. started c (begin request had) w (begin request had).stage.next) (none_read had was free)))
+    (by (begin request had) (begin request had).stage.next refl has)
+  where
+    by : (at : Moment) (next : Next) → at.stage.next ≡ next → HasRoomToHold desk room next → IfSome (started c at None next) (λ call. HasRoomToHold desk room call.stage.next)
+    by at next is has = grind arith
 
 -- the held regions don't matter
 pub named_lost : (addr : ℕ) (desk : DeskFacts) (call : Option CallFacts) → option_map (named_call (not_holding addr desk)) call ≡ option_map (named_call desk) call
@@ -232,14 +316,14 @@ named_takes desk call = grind arith
 pub named_aims : (arena : ℕ) (desk : DeskFacts) (call : CallFacts) → TakesAt (Some (named_call desk call)) → named_call desk (aimed call arena) ≡ aimed (named_call desk call) arena
 named_aims arena desk call takes = grind arith
 
--- there is room for the region that it may get
-pub named_rooms : (room : ℕ) (hand : Option Held) (desk : DeskFacts) (call call' : CallFacts) → named_call desk call' ≡ named_call desk call → HasRoomToHold hand room call.stage.next → HasRoomToHold hand room call'.stage.next
-named_rooms room hand desk call call' same has = aft desk call' (subst (λ (f : CallFacts). HasRoomToHold hand room f.stage.next) (sym same) (fore desk call has))
+-- there is room for the regions that it may get
+pub named_rooms : (room : ℕ) (had desk : DeskFacts) (call call' : CallFacts) → named_call desk call' ≡ named_call desk call → HasRoomToHold had room call.stage.next → HasRoomToHold had room call'.stage.next
+named_rooms room had desk call call' same has = aft desk call' (subst (λ (f : CallFacts). HasRoomToHold had room f.stage.next) (sym same) (fore desk call has))
   where
-    fore : (desk : DeskFacts) (call : CallFacts) → HasRoomToHold hand room call.stage.next → HasRoomToHold hand room (named_call desk call).stage.next
+    fore : (desk : DeskFacts) (call : CallFacts) → HasRoomToHold had room call.stage.next → HasRoomToHold had room (named_call desk call).stage.next
     fore desk call has = grind arith
 
-    aft : (desk : DeskFacts) (call : CallFacts) → HasRoomToHold hand room (named_call desk call).stage.next → HasRoomToHold hand room call.stage.next
+    aft : (desk : DeskFacts) (call : CallFacts) → HasRoomToHold had room (named_call desk call).stage.next → HasRoomToHold had room call.stage.next
     aft desk call has = grind arith
 
 -- What the call and its client's desk are after an item is what the client is then.

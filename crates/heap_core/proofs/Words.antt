@@ -50,4 +50,4 @@ pub use Rattle.sits.specs.Suits.{IsTheHand, Suits, SuitsAsk, SuitsChange, SuitsG
 pub use Rattle.space_model.proofs.Lists.{ones}
 pub use Rattle.space_model.proofs.Words.{granted_by, is_in_dalloc, is_owned}
 pub use Rattle.space_model.specs.declared.entries.Why.TheVariants.{Meets, OffSpace, Unaligned}
-pub use Rattle.thread_cache.specs.Desks.{kept, not_holding}
+pub use Rattle.call_plan.specs.Clients.{kept, not_holding}

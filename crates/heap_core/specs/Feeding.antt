@@ -8,9 +8,9 @@ use Rattle.heap_core.specs.Seats.{answer_of}
 abbrev pub shown : Inside → Seat
 shown c = record { desk = c.desk.facts; call = option_map (named_call c.desk.facts) c.call }
 
--- while its call is open, there is room for a region that it may come to hold
+-- while its call is open, there is room for the regions that it may come to hold
 abbrev pub HasDeskRoom : Inside → Type 0
-HasDeskRoom c = IfSome c.call (λ call. HasRoomToHold c.desk.facts.hand c.desk.room call.stage.next)
+HasDeskRoom c = IfSome c.call (λ call. HasRoomToHold c.desk.facts c.desk.room call.stage.next)
 
 -- its call takes a region over in the arena with this index
 abbrev pub aimed_seat : Seat → ℕ → Seat

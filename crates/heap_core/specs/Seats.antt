@@ -4,7 +4,7 @@ use Rattle.heap_core.specs.Words.{position, AskFacts, Held, DeskFacts, held_at, 
 
 -- what a client has before its first call: it allocates from arena 0, has its cache off, and has no region
 abbrev pub first_desk : DeskFacts
-first_desk = record { arena = 0; caches = false; cached = replicate 41 []; held = []; hand = None }
+first_desk = record { arena = 0; caches = false; cached = replicate 41 []; held = []; hand = None; gained = None; set = []; swapped = None }
 
 -- a client before its first call
 abbrev pub first_seat : Seat

@@ -37,4 +37,4 @@ pub use Rattle.space_model.specs.Span.{chunk_span, chunks_of, has_page, meets}
 pub use Rattle.space_model.specs.Step.{is_in_space, stands}
 pub use Rattle.space_model.specs.Stepped.{is_live}
 pub use Rattle.space_model.specs.declared.entries.Op.TheVariants.{GrowDone, OfferDone}
-pub use Rattle.thread_cache.specs.Desks.{not_holding}
+pub use Rattle.call_plan.specs.Clients.{not_holding}

@@ -14,13 +14,13 @@ use crate::arenas::ARENAS;
 use crate::logs::AskLog;
 use crate::seats::Client;
 use arena_core::Arena;
-use call_plan::{Answered, Request};
+use call_plan::{Answered, Desk, Request};
 use hook_api::{Asked, Askeds, Journals};
 use size_classes::PAGE_BYTES;
 use space_model::{CLIENTS, Counts};
 use std::alloc::{AllocError as NoMemory, Global};
 use std::marker::Model;
-use thread_cache::{Desk, Held};
+use thread_cache::Held;
 
 /// What a step of a client did.
 #[derive(Clone, Copy)]

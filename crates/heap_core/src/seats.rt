@@ -6,14 +6,14 @@ ghost use Rattle.heap_core.specs.Seats.{answer_of, first_seat, heard_by};
 ghost use Rattle.heap_core.specs.Feeding.{FedTo, aimed_seat};
 ghost use Rattle.heap_core.specs.Stepping.{Needs, TakesAt};
 
-use call_plan::{Answered, Call, Item, Need, Request};
+use call_plan::{Answered, Call, Desk, Item, Need, Request};
 use hook_api::Asked;
 use std::alloc::{AllocError as NoMemory, Global};
 use std::marker::Model;
-use thread_cache::{Desk, Held};
+use thread_cache::Held;
 
-/// A client: what it has, and its call while one is open. While that is so, its desk has room for a region that it may
-/// come to hold. Contracts see the call with the regions named that go back next.
+/// A client: what it has, and its call while one is open. While that is so, its desk has room for the regions that it
+/// may come to hold. Contracts see the call with the regions named that go back next.
 #[derive(Drop)]
 pub struct Client {
     desk: Desk,
@@ -135,7 +135,6 @@ impl Client {
     }
 
     /// Begins a call. Gives its answer, where it has ended already. Where memory is wanting nothing changes.
-    #[tactic(auto, using(crate::proofs::Wanting::started_open))]
     pub fn start(
         &mut self,
         alloc: Global,

@@ -1,4 +1,5 @@
-//! Calls of clients on a heap, and turns of clients in an arena that they share.
+//! What clients have, calls of clients on a heap, and turns of clients in an arena that they share.
 
+mod desks;
 mod heaps;
 mod turns;

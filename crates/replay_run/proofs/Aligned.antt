@@ -2,7 +2,8 @@
 use Rattle.replay_run.proofs.Words.{known_is, ◌≡◌, ℕ, ◌%◌, ◌<◌, ◌==◌, Bool, true, false, All, inl, inr, List, [], ◌∷◌, ◌++◌, Option, Some, IfSome, length, get_or, refl, sym, ◌∙◌, ap, subst, arith, nat_lt, Contains, count_by, eqb-true, ltb-true, nat_tests, get_or_default, All-filter, All-head, All-tail, sum_by-cons, ones, align_at, SpaceRegion, Space, is_held_by, Sound, both_true, Held, cached_in, DeskFacts, cached_is_flat, Answered, Region, Item, Request, Memalign, Owning, Point, Turns, Next, Go, Ends, IsCacheAligned, CallFacts, AllCame, desk_fed, Moment, after, begin, begin_memalign, begin_stage, run, settle, step_next, step, memaligns-are_aligned, IsArenas, opening_records, record_at, HeapFacts, Record, Seat, asked_for, first_desk, first_seat, seat_at, HasRegions, IsSeated, is_region, sound_at, had_counts, Owns, count_in, counts_low, has_owns, opening-sits, opening_is, past, IsAligned, IsAlignedFor, MemalignsAreAligned, Tale, answer_in, tale_fed, tale_in, WorldEvent, IsSound, World, Came}
 use Rattle.call_plan.specs.declared.needs.Answered.TheVariants.{Ok}
 use Rattle.replay_run.proofs.Getting.{Gets, begin_gets, step_gets}
-use Rattle.replay_run.proofs.Tales.{EndsHere, EndsWith, Kept, each_event}
+use Rattle.call_plan.specs.Desks.{meant, ready}
+use Rattle.replay_run.proofs.Tales.{EndsHere, EndsWith, Kept, each_event, meant_in}
 
 -- a region stands at a multiple of the alignment of its class
 abbrev IsRegionAligned : SpaceRegion → Type 0
@@ -74,10 +75,10 @@ abbrev AlignsAt : ℕ → Request → Tale → Next → Type 0
 AlignsAt c (Memalign align size) tale next = IsCacheAligned tale.began × Gets next × Follows c (begin (Memalign align size) tale.began) tale.items next
 AlignsAt c request tale next = Unit {0}
 
-abbrev Aligns : ℕ → Tale → Next → Type 0
-Aligns c tale next = AlignsAt c tale.request tale next
+abbrev Aligns : ℕ → Tale → DeskFacts → Next → Type 0
+Aligns c tale now next = AlignsAt c tale.request tale next
 
-begins_aligned : (c : ℕ) (request : Request) (desk : DeskFacts) → IsCacheAligned desk → AlignsAt c request (record { began = desk; request = request; items = [] }) (begin_stage request desk).next
+begins_aligned : (c : ℕ) (request : Request) (desk : DeskFacts) → IsCacheAligned desk → AlignsAt c request (record { began = desk; request = request; items = [] }) (begin_stage (meant request desk) (ready request desk)).next
 begins_aligned c (Memalign align size) desk cached = (cached, begin_gets align size desk, begun_follows c (begin (Memalign align size) desk) (begin_memalign align size desk).next refl)
 begins_aligned c request desk cached = tt
 
@@ -92,8 +93,8 @@ steps_aligned c (Memalign align size) tale point item (cached, gets, (all, is)) 
     (cached, step_gets point item gets, settled_follows c start (tale.items ++ item ∷ []) at.request desk at.stage.arena (step point item) more goes)
 steps_aligned c request tale point item so came = tt
 
-settles_aligned : (c : ℕ) (request : Request) (tale : Tale) (now : DeskFacts) (arena : ℕ) (next : Next) → AlignsAt c request tale next → AlignsAt c request tale (settle request now arena next).next
-settles_aligned c request tale now arena next so = grind arith
+settles_aligned : (c : ℕ) (request of : Request) (tale : Tale) (now : DeskFacts) (arena : ℕ) (next : Next) → AlignsAt c request tale next → AlignsAt c request tale (settle of now arena next).next
+settles_aligned c request of tale now arena next so = grind arith
 
 published_aligned : (c : ℕ) (request : Request) (tale : Tale) (addr : ℕ) → AlignsAt c request tale (Go (Turns (Owning addr true false))) → AlignsAt c request tale (Go (Turns (Owning addr true true)))
 published_aligned c (Memalign align size) tale addr so = absurd so.1
@@ -102,9 +103,11 @@ published_aligned c request tale addr so = tt
 aligns_kept : Kept Aligns
 aligns_kept = record {
   begins = λ h c request sound clients. begins_aligned c (asked_for h.seats c request) (seat_at h.seats c).desk (cache_aligned h c sound clients);
-  steps = λ c tale point item so came. steps_aligned c tale.request tale point item so came;
-  settles = λ c tale now arena next so. settles_aligned c tale.request tale now arena next so;
-  publishes = λ c tale addr so. published_aligned c tale.request tale addr so;
+  steps = λ c tale now arena point item so came. steps_aligned c tale.request tale point item so came;
+  settles = λ c tale now arena next so. settles_aligned c tale.request (meant_in tale) tale now arena next so;
+  closes = λ c tale now other answer so. so;
+  loses = λ c tale now addr next so. so;
+  publishes = λ c tale now addr so. published_aligned c tale.request tale addr so;
 }
 
 answer_aligned : (c : ℕ) (request : Request) (tale : Tale) (answer : Answered) → AlignsAt c request tale (Ends answer) → IsAlignedFor request answer
@@ -113,7 +116,7 @@ answer_aligned c request tale answer so = tt
 
 given_aligned : (w : World) (event : WorldEvent) (answer : Option Answered) (tale : Option Tale) → IfSome answer (EndsWith Aligns w event tale) →
     IfSome answer (λ given. IfSome tale (λ told. IsAlignedFor told.request given))
-given_aligned w event (Some answer) (Some tale) ends = answer_aligned ends.0 tale.request tale answer ends.1
+given_aligned w event (Some answer) (Some tale) ends = answer_aligned ends.0 tale.request tale answer ends.2
 given_aligned w event answer tale ends = tt
 
 event_aligned : (w : World) (tales : List (Option Tale)) (event : WorldEvent) → EndsHere Aligns w tales event → IsAligned w tales event

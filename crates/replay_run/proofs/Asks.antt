@@ -1,5 +1,5 @@
 -- The asks of a play are those that its heap has heard.
-use Rattle.replay_run.proofs.Words.{arith, ◌≡◌, ℕ, Bool, List, [], ◌∷◌, ◌++◌, Option, None, Some, refl, sym, ◌∙◌, ap, append-nil, append_assoc, Op, Held, AskFacts, Answered, Request, CallFacts, HeapFacts, holder_for, published_for, region_for, started, turned_for, answer_of, begun, Line, Verb, WorldEvent, Read, Began, Turned, Told, Starved, after_event, ask_in, asks_among, world_after, Reached, Now, Outset, Awaits, World, begins, begun_as, line_read, opening_world, AsksFor, Beginning, FindsNone, SweepFacts, TellsAt, WentOn, ask_line, beginning_in, settled, turn_line}
+use Rattle.replay_run.proofs.Words.{arith, ◌≡◌, ℕ, Bool, List, [], ◌∷◌, ◌++◌, Option, None, Some, refl, sym, ◌∙◌, ap, append-nil, append_assoc, Op, Held, AskFacts, Answered, CallFacts, HeapFacts, holder_for, published_for, region_for, started, turned_for, answer_of, begun, Line, Verb, WorldEvent, Read, Began, Turned, Told, Starved, after_event, ask_in, asks_among, world_after, Reached, Now, Outset, Awaits, World, begins, begun_as, line_read, opening_world, AsksFor, Beginning, FindsNone, SweepFacts, TellsAt, WentOn, ask_line, beginning_in, settled, turn_line}
 use Rattle.replay_run.proofs.Plays.{stepped_heap}
 
 -- no line asks anything

@@ -1,5 +1,5 @@
 -- The beginning of a call is an event.
-use Rattle.replay_run.proofs.Words.{arith, ◌≡◌, ◌≢◌, ℕ, Bool, true, false, List, [], ◌++◌, Option, None, Some, Result, Ok, Err, IfErr, OnOk, OnErr, refl, Appends-trans, slice_set, Appends, AppendsPrefix, Answered, NotHeld, Request, HeapFacts, started, answer_of, begun, Line, Tally, Verb, Stop, answer_line, Began, IsSound, Reached, GoesOn, Halted, Here, Now, Outset, is_one_step, world_at, HasStopCause, status_for, Awaits, Nothing, OneStep, TheEndBefore, TheStart, awaits_after, awaits_begun, awaits_call, after_event, has_open_call, names_ended, tallied, Beginning, CtlAnswer, FindsNone, AsksFor, TellsAt, OpenCall, Starting, ControlFacts, World, ap, sym, ◌∙◌, settled, State, Shelf, now_of, beginning_of, SweepFacts, begins, beginning_at, controls_of, target_of, told_line}
+use Rattle.replay_run.proofs.Words.{arith, ◌≡◌, ◌≢◌, ℕ, Bool, true, false, List, [], ◌++◌, Option, None, Some, Result, Ok, Err, IfErr, OnOk, OnErr, refl, Appends-trans, slice_set, Appends, AppendsPrefix, Answered, NotHeld, Request, HeapFacts, started, answer_of, begun, Line, Tally, Verb, Stop, answer_line, Began, IsSound, Reached, GoesOn, Halted, Here, Now, Outset, is_one_step, world_at, HasStopCause, status_for, Awaits, Nothing, OneStep, TheEndBefore, TheStart, awaits_after, awaits_begun, awaits_call, after_event, has_open_call, names_ended, tallied, Beginning, CtlAnswer, FindsNone, AsksFor, TellsAt, OpenCall, Starting, ControlFacts, World, ap, sym, ◌∙◌, settled, State, Shelf, now_of, beginning_of, SweepFacts, begins, controls_of, target_of, told_line}
 use Rattle.replay_run.proofs.Came.{Leads, came_next, came_sound}
 use Rattle.replay_run.proofs.Endings.{all_of, behind, sink_fault}
 use Rattle.replay_run.proofs.Stops.{stops_after}

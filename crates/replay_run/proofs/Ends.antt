@@ -1,5 +1,5 @@
 -- Replays at their beginning and at their end.
-use Rattle.replay_run.proofs.Words.{arith, length, map, true, IfErr, IfOk, OnOk, replicate, ◌≡◌, ◌≤◌, ◌⊎◌, inl, inr, ℕ, Bool, List, [], ◌++◌, Option, None, Result, Ok, Err, refl, sym, ◌∙◌, subst, IsErrAnd, Appends-nil, Consumes-nil, Consumes, Keeps, Rose, AskFacts, Shelf, Journal, journal_of, opening_heap, Stop, ReadFault, WriteFault, IsSound, lines_in, world_after, Ending, IsEnding, Open, Prints, ReplayOf, RunOf, ending_text, HasRead, Here, Now, Outset, Reading, HasStopCause, IsWholeStatus, status_for, status_in, Nothing, World, no_answers, opening_controls, opening_world, Closing}
+use Rattle.replay_run.proofs.Words.{arith, length, map, true, IfErr, IfOk, OnOk, replicate, ◌≡◌, ◌≤◌, ◌⊎◌, inl, inr, ℕ, Bool, List, [], ◌++◌, Option, None, Result, Ok, Err, refl, sym, ◌∙◌, subst, IsErrAnd, Appends-nil, Consumes-nil, Keeps, Rose, AskFacts, Shelf, Journal, journal_of, opening_heap, Stop, ReadFault, WriteFault, IsSound, lines_in, world_after, Ending, IsEnding, Open, Prints, ReplayOf, RunOf, ending_text, HasRead, Here, Now, Outset, Reading, HasStopCause, IsWholeStatus, status_for, status_in, Nothing, World, no_answers, opening_controls, opening_world, Closing}
 use Rattle.replay_run.proofs.Endings.{kept_after, kept_begun, stop_bounds}
 use Rattle.replay_run.proofs.Stops.{prints_begun}
 

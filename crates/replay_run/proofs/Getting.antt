@@ -1,21 +1,22 @@
 -- A call that gets a region goes nowhere else until it ends.
-use Rattle.replay_run.proofs.Words.{arith, nat_tests, ℕ, Reply, AskFacts, DeskFacts, Item, TurnPoint, Filling, Looking, Landing, AskPoint, Skipping, Trimming, Growing, Paring, Needing, Granting, Committing, Point, Turns, Asks, Tells, Next, Go, Over, More, begin_memalign, step, told, turn_replied}
+use Rattle.call_plan.specs.Stages.{Move}
+use Rattle.replay_run.proofs.Words.{◌≡◌, false, arith, nat_tests, ℕ, Reply, AskFacts, DeskFacts, Item, TurnPoint, Filling, Looking, Landing, AskPoint, Skipping, Trimming, Growing, Paring, Needing, Granting, Committing, Point, Turns, Asks, Tells, Next, Go, Over, More, begin_memalign, step, told, turn_replied}
 
--- the points at which a call gets a region
+-- the points at which a call gets a region, which takes no other one's place
 abbrev pub TurnGets : TurnPoint → Type 0
-TurnGets (Filling wish count) = Unit {0}
-TurnGets (Looking wish) = Unit {0}
-TurnGets (Landing wish span) = Unit {0}
+TurnGets (Filling wish count) = wish.moves ≡ false
+TurnGets (Looking wish) = wish.moves ≡ false
+TurnGets (Landing wish span) = wish.moves ≡ false
 TurnGets point = ⊥
 
 abbrev pub AskGets : AskPoint → Type 0
-AskGets (Skipping wish span b skip) = Unit {0}
-AskGets (Trimming wish span b) = Unit {0}
-AskGets (Growing wish chunks) = Unit {0}
-AskGets (Paring wish span b) = Unit {0}
-AskGets (Needing wish) = Unit {0}
-AskGets (Granting wish span b) = Unit {0}
-AskGets (Committing wish span) = Unit {0}
+AskGets (Skipping wish span b skip) = wish.moves ≡ false
+AskGets (Trimming wish span b) = wish.moves ≡ false
+AskGets (Growing wish chunks) = wish.moves ≡ false
+AskGets (Paring wish span b) = wish.moves ≡ false
+AskGets (Needing wish) = wish.moves ≡ false
+AskGets (Granting wish span b) = wish.moves ≡ false
+AskGets (Committing wish span) = wish.moves ≡ false
 AskGets point = ⊥
 
 abbrev pub PointGets : Point → Type 0
@@ -28,6 +29,7 @@ abbrev pub Gets : Next → Type 0
 Gets (Go point) = PointGets point
 Gets (Over index point) = ⊥
 Gets More = ⊥
+Gets (Move class) = ⊥
 Gets next = Unit {0}
 
 turned_gets : (point : TurnPoint) (reply : Reply) → TurnGets point → Gets (turn_replied point reply)

@@ -1,18 +1,21 @@
 -- What a turn of a play leaves as it was.
-use Rattle.replay_run.proofs.Words.{◌≡◌, ◌≢◌, ◌⊎◌, ℕ, ◌<◌, Bool, true, false, inl, inr, List, [], ◌∷◌, Option, None, Some, IfSome, refl, sym, ◌∙◌, ap, subst, arith, nat_tests, nat_lt, both_true, Ask, Alloc, Answer, Why, Op, Reply, Span, Space, Sound, step_of, op_goes, Mine, mine_in, BadAnswer, NotHeld, NoSuchArena, AskFacts, DeskFacts, Answered, Item, Replied, Request, AskPoint, Point, Turns, Asks, Tells, TurnPoint, Next, Go, Ends, Skipping, Trimming, Growing, Paring, Needing, Granting, Committing, CallFacts, Knows, ask_at, done_at, ended_by, desk_fed, settle, step, step_next, want, WantTurn, met_by_alloc, op_for, reply_in, replied, record_at, spaces_of, with_chunk_found, HeapFacts, IsArenas, answered_by, holder_for, answer_of, moment_after, seat_at, SitsAt, sound_at, turns-sit, turn_line, turned_for, Tale, IsSound, IsWanted, Began, Turned, Told, Starved, Read, World, WorldEvent, after_event, stepped, Record, tale_at, Verb, beginning_in, begins, Beginning, WentOn}
-use Rattle.std.specs.Prelude.{find, slice_set}
-use Rattle.space_model.specs.Outcome.{Outcome, PutDown, LookTook, LookNone, LookNoArena, CutKept, CutWhole, GrowRefused, GrowBad, GrowGrown, CommitNoted, CommitWhole, LandLanded, FillRegions, FillNothing, FillNoArena, AdvanceNoArena, PurgeNothing, PurgeNoArena, TakeNothing, TakeNoArena, ResetBusy, ResetNoArena, DestroyBusy, DestroyNoArena, CountsNoArena, SetNoted, SetNothing, SetNoArena, WidenNothing}
+use Rattle.replay_run.proofs.Words.{◌≡◌, ◌⊎◌, ℕ, ◌<◌, Bool, true, false, inl, inr, List, Option, None, Some, IfSome, refl, sym, ◌∙◌, ap, subst, arith, nat_tests, nat_lt, both_true, Op, Reply, Span, Space, step_of, op_goes, Mine, mine_in, BadAnswer, NotHeld, NoSuchArena, AskFacts, DeskFacts, Answered, Replied, Request, AskPoint, Point, Turns, Asks, Tells, Next, Go, Ends, Skipping, Trimming, Growing, Paring, Needing, Granting, Committing, CallFacts, Knows, ask_at, done_at, ended_by, desk_fed, settle, step, step_next, want, WantTurn, met_by_alloc, op_for, reply_in, record_at, spaces_of, HeapFacts, answered_by, holder_for, seat_at, sound_at, turns-sit, turn_line, turned_for, Tale, IsSound, IsWanted, Began, Turned, Told, Starved, Read, World, WorldEvent, after_event, Record, tale_at, Verb, beginning_in, begins, Beginning, WentOn}
+use Rattle.std.specs.Prelude.{find}
+use Rattle.space_model.specs.Outcome.{Outcome, PutDown, LookNoArena, CutKept, CutWhole, GrowRefused, GrowBad, GrowGrown, CommitNoted, CommitWhole, LandLanded, FillRegions, FillNothing, FillNoArena, AdvanceNoArena, PurgeNothing, PurgeNoArena, TakeNothing, TakeNoArena, ResetBusy, ResetNoArena, DestroyBusy, DestroyNoArena, CountsNoArena, SetNoted, SetNothing, SetNoArena, TrimCut, TrimWhole, WidenNothing}
+use Rattle.space_model.specs.Clients.{without_client}
 use Rattle.space_model.specs.Part.{is_flight_at}
 use Rattle.space_model.specs.Step.{op_stands}
 use Rattle.space_model.specs.declared.Answer.TheVariants.{Refused as Refuses}
 use Rattle.space_model.specs.declared.Ask.TheVariants.{Commit, Split}
 use Rattle.space_model.specs.declared.Heard.{Heard}
-use Rattle.space_model.specs.declared.Op.TheVariants.{Look, CutDone, GrowDone, CommitDone, Land, Fill, DestroyTake, Set}
+use Rattle.space_model.specs.declared.Op.TheVariants.{Look, CutDone, GrowDone, CommitDone, Land, Fill, DestroyTake, Set, TrimDone}
 use Rattle.space_model.specs.declared.Part.{Part}
 use Rattle.space_model.specs.declared.Reply.TheVariants.{NoArena, Nothing, Noted, Busy as InUse, Bad}
 use Rattle.space_model.specs.declared.Setting.{Setting}
 use Rattle.hook_api.specs.Asked.{heard_in}
 use Rattle.call_plan.specs.declared.needs.Answered.TheVariants.{ArenasFull, Busy}
+use Rattle.call_plan.specs.declared.points.AskPoint.TheVariants.{Cutting, Extending, Sparing, Backing}
+use Rattle.call_plan.specs.Table.{lacks}
 use Rattle.sits.proofs.Indexes.{elsewhere_is, there_is}
 use Rattle.recorded_arena.specs.Records.{record_after}
 use Rattle.heap_core.specs.Sitting.{Sits}
@@ -20,8 +23,8 @@ use Rattle.replay_run.proofs.Getting.{PointGets}
 use Rattle.replay_run.proofs.NewHeaps.{sits_there}
 use Rattle.replay_run.proofs.Served.{Way, way_kept}
 use Rattle.replay_run.proofs.Plays.{stepped_heap}
-use Rattle.replay_run.proofs.Tales.{EndsHere, OfCall, each_event, line_heap, seat_there}
-use Rattle.replay_run.proofs.Ways.{Leads, PointMakes, bad_at, full_at, in_use_at, no_arena_reply, not_held_at}
+use Rattle.replay_run.proofs.Tales.{EndsHere, OfCall, each_event, line_heap, meant_in, seat_there}
+use Rattle.replay_run.proofs.Ways.{Leads, bad_at, full_at, in_use_at, no_arena_reply, not_held_at}
 use Rattle.replay_run.specs.World.{settled}
 use Rattle.replay_run.specs.Leaving.{EventLeaves, EventsLeave, GivesRegions, IsCreate, IsFruitless, IsMalloc, Leaves, OwnTurnLeaves, RefusalLeaves}
 
@@ -49,6 +52,11 @@ module _ (c : ℕ) (s t : Space) where
       by found is = absurd (grind (arith, stands, told, ask, refuses))
   commit_leaves heard span reply (CommitWhole of asked down) stands told ask refuses =
       let same : of ≡ span = grind (arith, asked, ask) in subst (PutDown c s t) same down
+
+  trim_leaves : (heard : Heard) (class : ℕ) (reply : Reply) → Outcome c s t (TrimDone heard class) reply → reply ≡ (step_of s c (TrimDone heard class)).reply → heard.answer ≡ Refuses →
+      t ≡ record s { trims = without_client c s.trims }
+  trim_leaves heard class reply (TrimWhole same) told refuses = same
+  trim_leaves heard class reply (TrimCut span flies) told refuses = absurd (grind (arith, told, refuses))
 
 -- ---- replies of turns that leave all as it was
 
@@ -124,7 +132,7 @@ record Made (w : World) (c : ℕ) (call : CallFacts) (op : Op) (asked : Option A
 
 -- an ask of the kinds of a malloc was refused
 place_leaves : (w : World) (c : ℕ) (call : CallFacts) (place : AskPoint) (heard : AskFacts) (s t : Space) (reply : Reply) → op_stands s c (op_for w.heap call (done_at place heard)) ≡ true → Outcome c s t (op_for w.heap call (done_at place heard)) reply →
-    reply ≡ (step_of s c (op_for w.heap call (done_at place heard))).reply → heard.ask ≡ ask_at place → heard.answer ≡ Refuses → RefusalLeaves c s t (ask_at place)
+    reply ≡ (step_of s c (op_for w.heap call (done_at place heard))).reply → heard.ask ≡ ask_at place → heard.answer ≡ Refuses → RefusalLeaves c (done_at place heard) s t (ask_at place)
 place_leaves w c call (Skipping wish span b skip) heard s t reply stands goes told is refuses = cut_leaves c s t (heard_in heard) false span skip reply goes told is refuses
 place_leaves w c call (Trimming wish span b) heard s t reply stands goes told is refuses = cut_leaves c s t (heard_in heard) true span wish.pages reply goes told is refuses
 place_leaves w c call (Paring wish span b) heard s t reply stands goes told is refuses = cut_leaves c s t (heard_in heard) true span wish.pages reply goes told is refuses
@@ -132,10 +140,14 @@ place_leaves w c call (Granting wish span b) heard s t reply stands goes told is
 place_leaves w c call (Growing wish chunks) heard s t reply stands goes told is refuses = grow_leaves c s t (heard_in heard) (met_by_alloc (spaces_of w.heap.records) heard.ask heard.answer) reply goes told refuses
 place_leaves w c call (Needing wish) heard s t reply stands goes told is refuses = grow_leaves c s t (heard_in heard) (met_by_alloc (spaces_of w.heap.records) heard.ask heard.answer) reply goes told refuses
 place_leaves w c call (Committing wish span) heard s t reply stands goes told is refuses = commit_leaves c s t (heard_in heard) span reply goes stands told is refuses
+place_leaves w c call (Cutting resize) heard s t reply stands goes told is refuses = trim_leaves c s t (heard_in heard) resize.class reply goes told refuses
+place_leaves w c call (Extending resize) heard s t reply stands goes told is refuses = grow_leaves c s t (heard_in heard) (met_by_alloc (spaces_of w.heap.records) heard.ask heard.answer) reply goes told refuses
+place_leaves w c call (Sparing resize span b) heard s t reply stands goes told is refuses = cut_leaves c s t (heard_in heard) true span (lacks resize) reply goes told is refuses
+place_leaves w c call (Backing resize span) heard s t reply stands goes told is refuses = commit_leaves c s t (heard_in heard) span reply goes stands told is refuses
 place_leaves w c call place heard s t reply stands goes told is refuses = tt
 
 refused_leaves : (w : World) (c : ℕ) (call : CallFacts) (op : Op) (asked : Option AskFacts) (point : Point) (s t : Space) (reply : Reply) → Made w c call op asked point s t reply →
-    (heard : AskFacts) → asked ≡ Some heard → heard.answer ≡ Refuses → RefusalLeaves c s t heard.ask
+    (heard : AskFacts) → asked ≡ Some heard → heard.answer ≡ Refuses → RefusalLeaves c op s t heard.ask
 refused_leaves w c call op asked (Asks place (Some before)) s t reply made heard is refuses =
     let same : before ≡ heard = cc in
     let same_op : done_at place before ≡ op = cc in
@@ -144,8 +156,9 @@ refused_leaves w c call op asked (Asks place (Some before)) s t reply made heard
     let goes : Outcome c s t (op_for w.heap call (done_at place before)) reply = subst (λ (o : Op). Outcome c s t (op_for w.heap call o) reply) (sym same_op) made.goes in
     let stands : op_stands s c (op_for w.heap call (done_at place before)) ≡ true = subst (λ (o : Op). op_stands s c (op_for w.heap call o) ≡ true) (sym same_op) made.stands in
     let told : reply ≡ (step_of s c (op_for w.heap call (done_at place before))).reply = subst (λ (o : Op). reply ≡ (step_of s c (op_for w.heap call o)).reply) (sym same_op) made.told in
-    subst (λ (a : AskFacts). RefusalLeaves c s t a.ask) same
-    (subst (RefusalLeaves c s t) (sym asks) (place_leaves w c call place before s t reply stands goes told asks refused))
+    subst (λ (o : Op). RefusalLeaves c o s t heard.ask) same_op
+    (subst (λ (a : AskFacts). RefusalLeaves c (done_at place before) s t a.ask) same
+    (subst (RefusalLeaves c (done_at place before) s t) (sym asks) (place_leaves w c call place before s t reply stands goes told asks refused)))
 refused_leaves w c call op asked (Turns point) s t reply made heard is refuses = absurd (let none : None ≡ asked = cc in cc)
 refused_leaves w c call op asked (Asks place None) s t reply made heard is refuses = absurd (cc)
 refused_leaves w c call op asked (Tells span b) s t reply made heard is refuses = absurd (cc)
@@ -197,7 +210,7 @@ fruitless_leaves w c call op asked desk point s t reply wants goes = by (settle 
 
 -- what the turn of a client's own call leaves
 own_turn : (w : World) (c : ℕ) (call : CallFacts) (op : Op) (asked : Option AskFacts) (holder : Option ℕ) (before : Option Tale) → IsSound w.heap → c < 32 → IsWanted w c call (WantTurn op asked) →
-    OfCall Way c (Some call) before →
+    OfCall Way c (seat_at w.heap.seats c).desk (Some call) before →
     OwnTurnLeaves w.heap (turned_for w.heap c call op asked holder) c call op asked holder
 own_turn w c call op asked (Some holder) before sound there wants of = tt
 own_turn w c call op asked None None sound there wants of = absurd of
@@ -213,18 +226,18 @@ own_turn w c call op asked None (Some before) sound there wants of =
     let can = (turns-sit w.heap.records c desk call wants.point op asked sound.arenas there wants.at sits wants.wants).0 in
     let stands : op_stands own.space c done ≡ true = (both_true (nat_lt c 32) _ can.stands).1 in
     let goes : Outcome c own.space new.space done reply = (op_goes c own.space done (sound_at w.heap.records arena sound.arenas sits.waits.there) stands).outcome in
-    let leads : Leads call.request (Go wants.point) = subst (λ (r : Request). Leads r (Go wants.point)) (sym of.0) (subst (Leads before.request) wants.at of.1.1) in
+    let leads : Leads call.request (Go wants.point) = subst (λ (r : Request). Leads r (Go wants.point)) (sym of.0) (subst (Leads (meant_in before)) wants.at of.1.1) in
     let made : Made w c call op asked wants.point own.space new.space reply =
     record { wants = wants.wants; hears = heard_is (mine_in w.heap.records c arena) wants.point sits.waits.knows; stands = stands; goes = goes; told = refl; after = refl; leads = leads } in
     let fruitless = subst (λ (n : Next). IfSome (ended_by (settle call.request now arena (step_next n (Replied reply))).next) (λ given. IsFruitless given → new.space ≡ own.space)) (sym wants.at)
     (fruitless_leaves w c call op asked now wants.point own.space new.space reply wants.wants goes) in
-    let leaves : Leaves c own.space new.space call.request asked reply (answered_by w.heap c call op None) = record {
+    let leaves : Leaves c op own.space new.space call.request asked reply (answered_by w.heap c call op None) = record {
       refused = refused_leaves w c call op asked wants.point own.space new.space reply made;
       malloc = malloc_leaves w c call op asked wants.point own.space new.space reply call.request leads wants.wants goes refl;
       create = create_leaves w c call op asked wants.point own.space new.space reply call.request leads wants.wants goes;
       fruitless = fruitless;
     } in (
-      subst (λ (r : Record). Leaves c own.space r.space call.request asked reply (answered_by w.heap c call op None)) (sym (there_is w.heap.records arena new sound.arenas.number sits.waits.there)) leaves,
+      subst (λ (r : Record). Leaves c op own.space r.space call.request asked reply (answered_by w.heap c call op None)) (sym (there_is w.heap.records arena new sound.arenas.number sits.waits.there)) leaves,
       λ i other. elsewhere_is w.heap.records arena i new other,
     )
   where
@@ -248,7 +261,7 @@ event_leaves w tales (Turned c call op asked) it =
     let heap : HeapFacts = turned_for w.heap c call op asked (holder_for w.heap call) in
     subst (λ (h : HeapFacts). OwnTurnLeaves w.heap h c call op asked (holder_for w.heap call)) (sym (stepped_heap w c heap (turn_line c) (answered_by w.heap c call op (holder_for w.heap call))))
     (own_turn w c call op asked (holder_for w.heap call) (tale_at tales c) it.here.sound (seat_there w.heap.seats c call it.here.clients wants.open_call) wants
-    (subst (λ o. OfCall Way c o (tale_at tales c)) wants.open_call (it.open_calls.calls c)))
+    (subst (λ o. OfCall Way c (seat_at w.heap.seats c).desk o (tale_at tales c)) wants.open_call (it.open_calls.calls c)))
 event_leaves w tales (Told c call asked) it = ap (λ (h : HeapFacts). h.records) (stepped_heap w c _ _ _)
 event_leaves w tales (Starved c call) it = refl
 

@@ -1,4 +1,5 @@
 -- A call that has no answer is open.
+use Rattle.call_plan.specs.Desks.{meant, ready}
 use Rattle.replay_run.proofs.Words.{arith, length, length-set, ◌≡◌, ◌≢◌, ◌<◌, inl, inr, ℕ, true, Option, None, Some, is_none, is_some, set, refl, sym, ◌∙◌, ap, get_or-set_same, Op, AskFacts, Shelf, Item, Request, Next, Go, Ends, Point, CallFacts, desk_fed, IsPointOrEnd, ended_by, taken_next, Moment, step_next, Want, WantAsk, WantTurn, want, begin-is_call, settle_place, Stepped, HeapFacts, IsStepFor, IsStep, answered_by, holder_for, moment_after, parted, started, turned_for, Seat, answer_of, asked_for, begun, first_seat, open_call, seat_at, seat_of, AsksSit, HoldersPublish, TurnsSit, IsSound, has_open_call, Goes}
 use Rattle.call_plan.specs.declared.needs.Answered.TheVariants.{NoMemory}
 use Rattle.replay_run.proofs.Longer.{holder_region}
@@ -19,7 +20,7 @@ seated_open h c at number below place =
 -- where a request begins
 pub start_open : (h : HeapFacts) (c : ℕ) (request : Request) → length h.seats ≡ 32 → c < 32 → has_open_call (started h c request) c ≡ is_none (answer_of (begun h.seats c request))
 start_open h c request number below =
-    seated_open h c (begun h.seats c request) number below (begin-is_call (asked_for h.seats c request) (seat_at h.seats c).desk).0
+    seated_open h c (begun h.seats c request) number below (begin-is_call (meant (asked_for h.seats c request) (seat_at h.seats c).desk) (ready (asked_for h.seats c request) (seat_at h.seats c).desk)).0
 
 -- where an item leads
 after_open : (h : HeapFacts) (c : ℕ) (call : CallFacts) (item : Item) → length h.seats ≡ 32 → c < 32 → Goes (moment_after h c call item).stage.next →

@@ -1,5 +1,5 @@
 -- The counts of all arenas are small enough for a snapshot.
-use Rattle.std.proofs.Common.{ℕ, Bool, true, false, List, None, Some, All, arith, if◌then◌else◌}
+use Rattle.std.proofs.Common.{Bool, true, false, List, None, Some, All, arith, if◌then◌else◌}
 use Rattle.std.proofs.lemmas.List.Elements.{All-from_get_or, All-map}
 use Rattle.space_model.specs.declared.Space.{Space}
 use Rattle.space_model.specs.Counts.{counts_of}

@@ -1,5 +1,8 @@
 -- What an answer says of the world is so: a bad answer of a hook is one, and an arena that isn't there isn't live.
-use Rattle.replay_run.proofs.Words.{◌≡◌, false, is_live, ℕ, max, List, [], ◌∷◌, ◌++◌, Option, None, Some, IfSome, refl, sym, subst, rules, arith, nat_tests, nat_lt, Ask, Alloc, Answer, Placed, BadReply, Reply, Why, Space, Op, AskFacts, Answered, Item, ToldItem, Request, DeskFacts, AskPoint, Growing, Needing, Mine, Knows, Point, Turns, Asks, Tells, TurnPoint, Next, Go, Over, More, Gone, Ends, Nowhere, CallFacts, ended_by, settle, step_next, WantAsk, WantTurn, want, step, told, turn_replied, after_grow, grow_bad, answered_span, batch_goes, going, flushes, BatchFacts, batch_of, op_goes, both_true, turns-sit, sound_at, Sound, record_at, spaces_of, met_by_alloc, answered_by, moment_after, replied, answer_of, begun, seat_at, tale_begun, tale_in, Tale, AnswerCause, BadAnswer, Verb, Bool, option_map, desk_fed, done_at, ask_at, whole_chunks, step_of, op_for, reply_in, with_chunk_found, ◌<◌, ◌*◌, IsSeated, SitsAt, SpeaksAgainst, IsTrueIn, answer_begun, answer_in, WorldEvent, IsSound, IsWanted, Began, Turned, Told, World, holder_for, AsksFor, TellsAt, FindsNone, Beginning, IsGoneIn, NoSuchArena, WentOn, beginning_in, request_in}
+use Rattle.replay_run.proofs.Words.{◌≡◌, false, is_live, ℕ, max, List, [], ◌∷◌, ◌++◌, Option, None, Some, IfSome, refl, sym, subst, rules, arith, nat_tests, nat_lt, Ask, Alloc, Answer, Placed, BadReply, Reply, Why, Space, Op, AskFacts, Answered, Item, ToldItem, Request, DeskFacts, AskPoint, Growing, Needing, Mine, Knows, Point, Turns, Asks, Tells, TurnPoint, Next, Go, Over, More, Gone, Ends, Nowhere, CallFacts, ended_by, settle, step_next, WantAsk, WantTurn, want, step, told, turn_replied, after_grow, grow_bad, answered_span, batch_goes, going, flushes, BatchFacts, batch_of, Held, op_goes, both_true, turns-sit, sound_at, Sound, record_at, spaces_of, met_by_alloc, answered_by, moment_after, replied, answer_of, begun, seat_at, tale_begun, tale_in, Tale, AnswerCause, BadAnswer, Verb, Bool, option_map, desk_fed, done_at, ask_at, whole_chunks, step_of, op_for, reply_in, with_chunk_found, ◌<◌, ◌*◌, IsSeated, SitsAt, SpeaksAgainst, IsTrueIn, answer_begun, answer_in, WorldEvent, IsSound, IsWanted, Began, Turned, Told, World, holder_for, AsksFor, TellsAt, FindsNone, Beginning, IsGoneIn, NoSuchArena, WentOn, beginning_in, request_in}
+use Rattle.call_plan.specs.Clients.{hit}
+use Rattle.call_plan.specs.Runs.{desk_moved, gives, move_stage}
+use Rattle.call_plan.specs.Stages.{Move}
 use Rattle.space_model.specs.Outcome.{Outcome, LookNoArena, FillNoArena, AdvanceNoArena, PurgeNoArena, TakeNoArena, ResetNoArena, DestroyNoArena, CountsNoArena, SetNoArena}
 use Rattle.space_model.specs.declared.Reply.TheVariants.{NoArena}
 use Rattle.replay_run.proofs.Tales.{IsHere, seat_there}
@@ -14,16 +17,27 @@ NextTrue w c call op asked (Ends answer) = IsTrueIn w (Turned c call op asked) a
 NextTrue w c call op asked Gone = IsDead w call
 NextTrue w c call op asked next = Unit {0}
 
+-- where all goes back there is an answer only once all is done, which tells nothing of the world
+goes_true : (w : World) (c : ℕ) (call : CallFacts) (op : Op) (asked : Option AskFacts) (arena : ℕ) (gained : Option Held) (batch : Option BatchFacts) →
+    IfSome (ended_by (batch_goes arena gained batch).next) (IsTrueIn w (Turned c call op asked))
+goes_true w c call op asked arena None None = tt
+goes_true w c call op asked arena (Some region) None = tt
+goes_true w c call op asked arena gained (Some batch) = tt
+
+-- and there is none where a region of a class is to be got in place of the one in hand
+move_true : (w : World) (c : ℕ) (call : CallFacts) (op : Op) (asked : Option AskFacts) (desk : DeskFacts) (class : ℕ) (found : Option Held) →
+    IfSome (ended_by (move_stage call.request call.stage.arena class found desk).next) (IsTrueIn w (Turned c call op asked))
+move_true w c call op asked desk class (Some region) =
+    let now : DeskFacts = desk_moved class (Some region) desk in goes_true w c call op asked call.stage.arena (gives call.request now) (batch_of (going (flushes call.request) now))
+move_true w c call op asked desk class None = grind (arith, nat_tests)
+
 -- so it is where the call then stands
 settled_true : (w : World) (c : ℕ) (call : CallFacts) (op : Op) (asked : Option AskFacts) (desk : DeskFacts) (next : Next) → NextTrue w c call op asked next →
     IfSome (ended_by (settle call.request desk call.stage.arena next).next) (IsTrueIn w (Turned c call op asked))
 settled_true w c call op asked desk (Go point) so = tt
 settled_true w c call op asked desk (Over index point) so = tt
-settled_true w c call op asked desk More so = by (batch_of (going (flushes call.request) desk))
-  where
-    by : (batch : Option BatchFacts) → IfSome (ended_by (batch_goes call.stage.arena batch).next) (IsTrueIn w (Turned c call op asked))
-    by None = tt
-    by (Some batch) = tt
+settled_true w c call op asked desk More so = goes_true w c call op asked call.stage.arena (gives call.request desk) (batch_of (going (flushes call.request) desk))
+settled_true w c call op asked desk (Move class) so = move_true w c call op asked desk class (hit class desk)
 settled_true w c call op asked desk Gone so = (refl, so)
 settled_true w c call op asked desk (Ends answer) so = so
 settled_true w c call op asked desk Nowhere so = tt

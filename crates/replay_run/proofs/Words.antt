@@ -18,7 +18,7 @@ pub use Rattle.memchr.specs.Find.{NoneBefore, Nowhere as PassesNowhere, Passes, 
 pub use Rattle.call_plan.proofs.Bounds.{chosen_stage}
 pub use Rattle.call_plan.proofs.Credits.{begin-is_call, settle_place}
 pub use Rattle.call_plan.proofs.Memaligns.{memaligns-are_aligned}
-pub use Rattle.call_plan.proofs.Reasons.{NextWhy, begin_why, settle_why, step_why}
+pub use Rattle.call_plan.proofs.Reasons.{NextWhy, begin_why, settles_why, step_why}
 pub use Rattle.call_plan.specs.Aligned.{IsCacheAligned}
 pub use Rattle.call_plan.specs.Calls.{CallFacts, moment_of}
 pub use Rattle.call_plan.specs.Causes.{AllCame, Came}
@@ -85,9 +85,9 @@ pub use Rattle.space_model.specs.declared.Reply.{Reply}
 pub use Rattle.space_model.specs.declared.Reply.TheVariants.{Noted, Took, Grow, Refused as Refuse, Grown, Landed, Regions}
 pub use Rattle.space_model.specs.declared.Space.{Space}
 pub use Rattle.space_model.specs.declared.Span.{Span}
-pub use Rattle.thread_cache.proofs.Going.{cached_is_flat}
+pub use Rattle.call_plan.proofs.Going.{cached_is_flat}
 pub use Rattle.thread_cache.specs.Caches.{cached_in}
-pub use Rattle.thread_cache.specs.Desks.{DeskFacts, held_at, not_holding}
+pub use Rattle.call_plan.specs.Clients.{DeskFacts, held_at, not_holding}
 pub use Rattle.thread_cache.specs.declared.Held.{Held}
 pub use Rattle.trace_text.specs.Grammar.{line_of}
 pub use Rattle.trace_text.specs.Lines.{HasNoNewline}
@@ -130,7 +130,7 @@ pub use Rattle.heap_core.proofs.LastAsk.{last_pushed}
 pub use Rattle.call_plan.specs.Desks.{flushes}
 pub use Rattle.call_plan.specs.Runs.{batch_goes}
 pub use Rattle.call_plan.specs.declared.needs.Answered.TheVariants.{NoArena as NoSuchArena}
-pub use Rattle.thread_cache.specs.Desks.{BatchFacts, batch_of, going}
+pub use Rattle.call_plan.specs.Clients.{BatchFacts, batch_of, going}
 pub use Rattle.space_model.proofs.Steps.{op_goes}
 pub use Rattle.call_plan.proofs.Causes.{grow_bad}
 pub use Rattle.call_plan.specs.Knows.{Heard, Knows}

@@ -4,7 +4,7 @@ use Rattle.std.specs.Option.{option_map}
 use Rattle.size_classes.specs.Classes.{aligned_for}
 use Rattle.space_model.specs.declared.Op.{Op}
 use Rattle.space_model.specs.Step.{is_live, why_not}
-use Rattle.thread_cache.specs.Desks.{DeskFacts}
+use Rattle.call_plan.specs.Clients.{DeskFacts}
 use Rattle.call_plan.specs.declared.needs.Answered.{Answered}
 use Rattle.call_plan.specs.declared.needs.Answered.TheVariants.{Ok, NotHeld, BadAnswer, NoArena}
 use Rattle.call_plan.specs.declared.needs.Given.TheVariants.{Region}

@@ -1,5 +1,5 @@
 -- What a call of a line comes to where it begins: a request, a sweep, or an answer.
-use Rattle.std.specs.Prelude.{ℕ, ◌/◌, ◌==◌, Bool, List, Option, None, Some, Result, Ok, Err}
+use Rattle.std.specs.Prelude.{ℕ, ◌/◌, List, Option, None, Some, Result, Ok, Err}
 use Rattle.std.specs.List.{list_any, position}
 use Rattle.std.specs.Option.{ok_or, option_map_or}
 use Rattle.space_model.specs.declared.Rest.{Rest}
@@ -23,11 +23,11 @@ use Rattle.recorded_arena.specs.Records.{Record}
 use Rattle.heap_stats.specs.Stats.{stat_of}
 use Rattle.report_text.specs.declared.controls.CtlAnswer.TheVariants.{Done, Number}
 use Rattle.trace_text.specs.declared.lines.Verb.{Verb}
-use Rattle.trace_text.specs.declared.lines.Verb.TheVariants.{Malloc, Memalign, Free, Publish, Take, Purge, Decay, Time, Reset, Destroy, Create, Bind, Cache, Flush, CtlPlain, CtlWrite}
+use Rattle.trace_text.specs.declared.lines.Verb.TheVariants.{Malloc, Memalign, Free, Publish, Take, Purge, Decay, Time, Reset, Destroy, Create, Bind, Cache, Flush, MallocIn, FreeIn, CtlPlain, CtlWrite, Realloc}
 use Rattle.replay_run.specs.declared.beginnings.Beginning.{Beginning}
 use Rattle.replay_run.specs.declared.beginnings.Beginning.TheVariants.{Asks, Tells, FindsNone}
 use Rattle.replay_run.specs.Controls.{ControlFacts, arena_answer, controls_by, error_answer, live_arenas, lookup_answer, setting_answer, times_at}
-use Rattle.replay_run.specs.Names.{address_at}
+use Rattle.replay_run.specs.Names.{address_at, address_in}
 use Rattle.replay_run.specs.Sweeps.{SweepFacts, advanced, request_next}
 
 -- ---- calls by their own words
@@ -50,9 +50,12 @@ decay_list rest = Muzzy
 abbrev pub region_request : List Record → List (List ℕ × ℕ) → Verb → Option Request
 region_request records names (Malloc name size) = Some (request.Malloc size)
 region_request records names (Memalign name align size) = Some (request.Memalign align size)
+region_request records names (Realloc name size) = Some (request.Realloc (address_in names name) size)
 region_request records names (Free target) = Some (request.Free (address_at names target))
 region_request records names (Publish target) = Some (request.Publish (address_at names target))
 region_request records names (Take target) = take_in (address_at names target) (arena_with records (address_at names target))
+region_request records names (MallocIn name size slot) = Some (request.MallocIn slot size)
+region_request records names (FreeIn target slot) = Some (request.FreeIn slot (address_at names target))
 region_request records names verb = None
 
 -- what a call asks for that is about an arena or about what its client keeps, if it is one, at a moment and with the decay times

@@ -20,10 +20,10 @@ use Rattle.heap_core.specs.Arenas.{where_live}
 use Rattle.recorded_arena.specs.Records.{Record}
 use Rattle.heap_core.specs.Heaps.{HeapFacts}
 use Rattle.heap_core.specs.Seats.{seat_at}
-use Rattle.heap_stats.specs.Stats.{counts_or_none, no_counts, stat_of}
+use Rattle.heap_stats.specs.Stats.{counts_or_none, no_counts}
 use Rattle.replay_run.specs.Counts.{all_counts}
 use Rattle.report_text.specs.declared.controls.CtlAnswer.{CtlAnswer}
-use Rattle.report_text.specs.declared.controls.CtlAnswer.TheVariants.{Done, Number, Truth, Time, Enoent, Eperm, Einval, Gone}
+use Rattle.report_text.specs.declared.controls.CtlAnswer.TheVariants.{Number, Truth, Time, Enoent, Eperm, Einval, Gone}
 
 -- What controls read and write beside the heap: the counts of the last refresh, how often there was one, and the decay times in
 -- milliseconds with which arenas are created.

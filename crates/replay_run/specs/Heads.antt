@@ -11,7 +11,7 @@ use Rattle.report_text.specs.declared.heads.Head.TheVariants as head
 use Rattle.report_text.specs.declared.controls.CtlAnswer.{CtlAnswer}
 use Rattle.report_text.specs.Lines.{call_line, ctl_line}
 use Rattle.trace_text.specs.declared.lines.Verb.{Verb}
-use Rattle.trace_text.specs.declared.lines.Verb.TheVariants.{Malloc, Memalign, Free, Publish, Take, Purge, Decay, Time, Reset, Destroy, Create, Bind, Cache, Flush, CtlPlain, CtlWrite}
+use Rattle.trace_text.specs.declared.lines.Verb.TheVariants.{Malloc, Memalign, Free, Publish, Take, Purge, Decay, Time, Reset, Destroy, Create, Bind, Cache, Flush, MallocIn, FreeIn, CtlPlain, CtlWrite, Realloc}
 
 -- the bytes of a name, as a reference to them
 abbrev pub borrowed : List ℕ → Bor (List ℕ)
@@ -36,6 +36,7 @@ ctl_head name false = head.Ctl (borrowed name)
 abbrev pub head_of : Verb → Head
 head_of (Malloc name size) = head.Malloc (borrowed name)
 head_of (Memalign name align size) = head.Memalign (borrowed name)
+head_of (Realloc name size) = head.Realloc (borrowed name)
 head_of (Free target) = head.Free
 head_of (Publish target) = head.Publish
 head_of (Take target) = head.Take
@@ -48,6 +49,8 @@ head_of (Create box_no) = head.Create
 head_of (Bind index) = head.Arena
 head_of (Cache on) = head.Cache
 head_of Flush = head.Flush
+head_of (MallocIn name size slot) = head.MallocIn (borrowed name)
+head_of (FreeIn region slot) = head.FreeIn
 head_of (CtlPlain name) = ctl_head name (is_of_all name)
 head_of (CtlWrite name value) = head.Ctl (borrowed name)
 

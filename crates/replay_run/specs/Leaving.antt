@@ -1,10 +1,12 @@
 -- What a turn of a play leaves as it was: where a hook refused, and where a call gets nothing.
-use Rattle.std.specs.Prelude.{◌≡◌, ◌≢◌, ◌⊎◌, ℕ, ◌<◌, List, [], Option, None, Some, IfSome}
+use Rattle.std.specs.Prelude.{◌≡◌, ◌≢◌, ◌⊎◌, ℕ, ◌<◌, false, List, Option, None, Some, IfSome}
+use Rattle.space_model.specs.Clients.{is_in, without_client}
 use Rattle.space_model.specs.Outcome.{PutDown}
 use Rattle.space_model.specs.declared.Answer.TheVariants.{Refused as Refuses}
 use Rattle.space_model.specs.declared.Ask.{Ask}
 use Rattle.space_model.specs.declared.Ask.TheVariants.{Alloc, Commit, Split}
 use Rattle.space_model.specs.declared.Op.{Op}
+use Rattle.space_model.specs.declared.Op.TheVariants.{TrimDone}
 use Rattle.space_model.specs.declared.Reply.{Reply}
 use Rattle.space_model.specs.declared.Reply.TheVariants.{Noted, Landed, Regions}
 use Rattle.space_model.specs.declared.Space.{Space}
@@ -16,17 +18,20 @@ use Rattle.call_plan.specs.declared.needs.Request.{Request}
 use Rattle.call_plan.specs.declared.needs.Request.TheVariants.{Malloc, Memalign, Create}
 use Rattle.sits.specs.Arenas.{record_at, reply_in}
 use Rattle.heap_core.specs.Heaps.{HeapFacts, answered_by, holder_for, op_for}
+use Rattle.heap_core.specs.Seats.{seat_at}
 use Rattle.replay_run.specs.Answers.{AllEvents, Tale, no_tales}
 use Rattle.replay_run.specs.Plays.{AllWorlds, HasSoundHeap, IsPlay, Turned, WorldEvent, after_event}
 use Rattle.replay_run.specs.World.{World, opening_world}
 
 -- What a turn leaves of an arena that takes a refusal in: after that of a split or a commit the extent was put down whole, in the
--- list that it belongs to and as committed as it was, and nothing else changed; after that of an alloc nothing changed.
-abbrev pub RefusalLeaves : ℕ → Space → Space → Ask → Type 0
-RefusalLeaves c s t (Split span left) = PutDown c s t span
-RefusalLeaves c s t (Commit span) = PutDown c s t span
-RefusalLeaves c s t (Alloc commit at pages align) = t ≡ s
-RefusalLeaves c s t ask = Unit {0}
+-- list that it belongs to and as committed as it was, and nothing else changed; after that of an alloc nothing changed. After the
+-- refusal to split the extent of a region that was to be cut in place, the region stands as it was.
+abbrev pub RefusalLeaves : ℕ → Op → Space → Space → Ask → Type 0
+RefusalLeaves c (TrimDone heard class) s t ask = t ≡ record s { trims = without_client c s.trims }
+RefusalLeaves c op s t (Split span left) = PutDown c s t span
+RefusalLeaves c op s t (Commit span) = PutDown c s t span
+RefusalLeaves c op s t (Alloc commit at pages align) = t ≡ s
+RefusalLeaves c op s t ask = Unit {0}
 
 -- a malloc, aligned or not
 abbrev pub IsMalloc : Request → Type 0
@@ -56,8 +61,8 @@ IsFruitless answer = ⊥
 -- What a turn of a client's own call leaves of its arena: what a refusal leaves, where it takes one in; of a malloc all regions as
 -- they were, unless it gives some; of a create all as it was, unless it makes the arena; and all as it was where the call ends and
 -- nothing could be done.
-pub record Leaves (c : ℕ) (s t : Space) (request : Request) (asked : Option AskFacts) (reply : Reply) (answer : Option Answered) : Type 0 where
-  pub refused : (heard : AskFacts) → asked ≡ Some heard → heard.answer ≡ Refuses → RefusalLeaves c s t heard.ask
+pub record Leaves (c : ℕ) (op : Op) (s t : Space) (request : Request) (asked : Option AskFacts) (reply : Reply) (answer : Option Answered) : Type 0 where
+  pub refused : (heard : AskFacts) → asked ≡ Some heard → heard.answer ≡ Refuses → RefusalLeaves c op s t heard.ask
   pub malloc : IsMalloc request → GivesRegions reply ⊎ (t.regions ≡ s.regions)
   pub create : IsCreate request → (reply ≡ Noted) ⊎ (t ≡ s)
   pub fruitless : IfSome answer (λ given. IsFruitless given → t ≡ s)
@@ -66,7 +71,7 @@ pub record Leaves (c : ℕ) (s t : Space) (request : Request) (asked : Option As
 abbrev pub OwnTurnLeaves : HeapFacts → HeapFacts → ℕ → CallFacts → Op → Option AskFacts → Option ℕ → Type 0
 OwnTurnLeaves h h' c call op asked (Some holder) = Unit {0}
 OwnTurnLeaves h h' c call op asked None =
-    Leaves c (record_at h.records call.stage.arena).space (record_at h'.records call.stage.arena).space call.request asked
+    Leaves c op (record_at h.records call.stage.arena).space (record_at h'.records call.stage.arena).space call.request asked
     (reply_in h.records call.stage.arena c (op_for h call op)) (answered_by h c call op None)
     × ((i : ℕ) → i ≢ call.stage.arena → record_at h'.records i ≡ record_at h.records i)
 
@@ -79,10 +84,10 @@ EventLeaves w tales event = (after_event w event).heap.records ≡ w.heap.record
 abbrev pub EventsLeave : Type 0
 EventsLeave = (events : List WorldEvent) → IsPlay opening_world events → AllWorlds HasSoundHeap opening_world events → AllEvents EventLeaves opening_world no_tales events
 
--- nobody is shrinking a region in place
+-- no client without an open call is shrinking a region in place
 abbrev pub HasNoTrims : World → Type 0
-HasNoTrims w = (i : ℕ) → (record_at w.heap.records i).space.trims ≡ []
+HasNoTrims w = (c : ℕ) → c < 32 → (seat_at w.heap.seats c).call ≡ None → (i : ℕ) → is_in c (record_at w.heap.records i).space.trims ≡ false
 
--- no trim is ever open in a play
+-- so no trim outlives its call in a play
 abbrev pub NoTrimsOpen : Type 0
 NoTrimsOpen = (events : List WorldEvent) → IsPlay opening_world events → AllWorlds HasSoundHeap opening_world events → AllWorlds HasNoTrims opening_world events

@@ -12,14 +12,16 @@ use Rattle.space_model.specs.declared.Space.{Space}
 use Rattle.space_model.specs.declared.Why.{Why}
 use Rattle.size_classes.specs.Classes.{IsAlignment}
 use Rattle.hook_api.specs.Asked.{AskFacts}
-use Rattle.thread_cache.specs.Desks.{DeskFacts, held_at}
+use Rattle.call_plan.specs.Clients.{DeskFacts, has_cache, held_at}
+use Rattle.cache_set.specs.Sets.{free_slot}
 use Rattle.thread_cache.specs.declared.Held.{Held}
 use Rattle.call_plan.specs.Causes.{IsNeeded, IsWishOf}
+use Rattle.call_plan.specs.Desks.{meant}
 use Rattle.call_plan.specs.Items.{Item, Replied, Told}
 use Rattle.call_plan.specs.declared.needs.Answered.{Answered}
 use Rattle.call_plan.specs.declared.needs.Answered.TheVariants.{Ok, Refused, BadAnswer, NoMemory}
 use Rattle.call_plan.specs.declared.needs.Request.{Request}
-use Rattle.call_plan.specs.declared.needs.Request.TheVariants.{Malloc, Memalign, Free, FreeForeign, Publish, Take, Flush, Cache, Purge, Decay, Time, Reset, Destroy, Create, Bind, HookBox, GrowLimit}
+use Rattle.call_plan.specs.declared.needs.Request.TheVariants.{Malloc, Memalign, Realloc, Free, FreeForeign, Publish, Take, Flush, Cache, Purge, Decay, Time, Reset, Destroy, Create, Bind, HookBox, GrowLimit, MallocIn, FreeIn, NewCache, FlushCache, EndCache}
 use Rattle.call_plan.specs.declared.points.Wish.{Wish}
 use Rattle.sits.specs.Arenas.{record_at}
 use Rattle.heap_core.specs.Heaps.{HeapFacts}
@@ -53,18 +55,24 @@ IsMet h event = Unit {0}
 abbrev pub IsHeldBy : DeskFacts → ℕ → Type 0
 IsHeldBy desk addr = (region : Held) × (held_at addr desk ≡ Some region)
 
--- A request is valid, by what its client had where it began, by what it was replied, and by what the turn meets that answers it: a
+-- A request is valid, by what its client had where it began (an explicit cache that it uses, or fewer than eight for one more), by what it was replied, and by what the turn meets that answers it: a
 -- size of at most 2 ^ 35 bytes and an alignment that may be asked for; a region that its client holds, or that is published in the
 -- arena where it is taken over; arenas that are live, one to empty or to end in nobody's use, and not arena 0; and for a create an
 -- index that has no arena at its turn.
 abbrev pub IsValid : World → WorldEvent → Tale → Request → Type 0
 IsValid w event tale (Malloc size) = size ≤ 2 ^ 35
 IsValid w event tale (Memalign align size) = IsAlignment align × (size ≤ 2 ^ 35)
+IsValid w event tale (Realloc addr size) = IsHeldBy tale.began addr × (size ≤ 2 ^ 35)
 IsValid w event tale (Free addr) = IsHeldBy tale.began addr
 IsValid w event tale (Publish addr) = IsHeldBy tale.began addr
 IsValid w event tale (FreeForeign addr arena) = (arena < 32) × IsMet w.heap event
 IsValid w event tale (Take addr arena) = (arena < 32) × IsMet w.heap event
 IsValid w event tale Flush = Unit {0}
+IsValid w event tale (MallocIn slot size) = (has_cache slot tale.began ≡ true) × (size ≤ 2 ^ 35)
+IsValid w event tale (FreeIn slot addr) = (has_cache slot tale.began ≡ true) × IsHeldBy tale.began addr
+IsValid w event tale NewCache = free_slot tale.began.set ≢ None
+IsValid w event tale (FlushCache slot) = has_cache slot tale.began ≡ true
+IsValid w event tale (EndCache slot) = has_cache slot tale.began ≡ true
 IsValid w event tale (Cache on) = Unit {0}
 IsValid w event tale (Create box_no dirty_ms muzzy_ms now) = tale.items ≢ replicate 31 (Replied Nothing)
 IsValid w event tale (Reset arena) = (arena ≢ 0) × (arena < 32) × IsMetLive w.heap event × IsMet w.heap event
@@ -98,10 +106,11 @@ pub record IsHelped (request : Request) (items : List Item) : Type 0 where
       → items ≡ earlier ++ Told asked ∷ later → IsNeeded wish earlier asked.ask → asked.answer ≢ Refuses
   pub fitting : (why : Why) → Contains items (Replied (Bad why)) → ⊥
 
--- A valid request has one of these answers.
+-- A valid request has one of these answers. Where it uses an explicit cache, what it needed is what the request needs as it is carried
+-- out there.
 pub record IsServed (w : World) (event : WorldEvent) (tale : Tale) (answer : Answered) : Type 0 where
   pub fails : IsValid w event tale tale.request → MayCome answer
-  pub helped : IsValid w event tale tale.request → IsHelped tale.request tale.items → Serves answer
+  pub helped : IsValid w event tale tale.request → IsHelped (meant tale.request tale.began) tale.items → Serves answer
 
 -- the answer that an event gives to a request is one that a valid request may have, if it is valid
 abbrev pub IsServedThere : World → List (Option Tale) → WorldEvent → Type 0

@@ -1,5 +1,5 @@
 -- Sweeps: an upkeep of all arenas that are live where a line is carried out, one after another.
-use Rattle.std.specs.Prelude.{ℕ, List, [], ◌∷◌, Option, None, Some, option_map}
+use Rattle.std.specs.Prelude.{ℕ, List, [], ◌∷◌, Option, None, Some}
 use Rattle.call_plan.specs.declared.needs.Request.{Request}
 use Rattle.ctl_values.specs.declared.steps.Upkeep.{Upkeep}
 use Rattle.ctl_values.specs.Steps.{request_of}

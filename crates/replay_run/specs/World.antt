@@ -15,7 +15,7 @@ use Rattle.heap_core.specs.Heaps.{HeapFacts, opening_heap, started}
 use Rattle.heap_core.specs.Seats.{answer_of, begun, seat_at}
 use Rattle.report_text.specs.Lines.{counts_line, idle_line, no_arena_line}
 use Rattle.trace_text.specs.declared.lines.Verb.{Verb}
-use Rattle.trace_text.specs.declared.lines.Verb.TheVariants.{Malloc, Memalign}
+use Rattle.trace_text.specs.declared.lines.Verb.TheVariants.{Malloc, Memalign, MallocIn, Realloc}
 use Rattle.trace_text.specs.declared.lines.Line.{Line}
 use Rattle.trace_text.specs.declared.lines.Line.TheVariants.{Call, Start, Step, End, At, Counts as CountsOf}
 use Rattle.replay_run.specs.declared.beginnings.Beginning.{Beginning}
@@ -88,10 +88,12 @@ has_open_call h c = is_some (seat_at h.seats c).call
 
 -- ---- how calls end and begin
 
--- the names after a call with its answer: where a malloc or a memalign gave a region, its name is bound to the address
+-- the names after a call with its answer: where a malloc, a memalign, a realloc or a mallocx gave a region, its name is bound to the address
 abbrev pub names_ended : List (List ℕ × ℕ) → Verb → Answered → List (List ℕ × ℕ)
 names_ended names (Malloc name size) (Ok (Region addr class)) = named names name addr
 names_ended names (Memalign name align size) (Ok (Region addr class)) = named names name addr
+names_ended names (Realloc name size) (Ok (Region addr class)) = named names name addr
+names_ended names (MallocIn name size slot) (Ok (Region addr class)) = named names name addr
 names_ended names verb answer = names
 
 -- a count with one more, up to the greatest `u64`

@@ -106,6 +106,10 @@ fn region_request(heap: &Heap, names: &Names, verb: &Verb) -> Option<Request>
             align: *align,
             size: *size,
         }),
+        Verb::Realloc { name, size } => Some(Request::Realloc {
+            addr: names.address(name),
+            size: *size,
+        }),
         Verb::Free(target) => Some(Request::Free {
             addr: names.address_at(target),
         }),
@@ -113,6 +117,14 @@ fn region_request(heap: &Heap, names: &Names, verb: &Verb) -> Option<Request>
             addr: names.address_at(target),
         }),
         Verb::Take(target) => take_of(heap, names, target),
+        Verb::MallocIn { size, slot, .. } => Some(Request::MallocIn {
+            slot: *slot,
+            size: *size,
+        }),
+        Verb::FreeIn { region, slot } => Some(Request::FreeIn {
+            slot: *slot,
+            addr: names.address_at(region),
+        }),
         _ => None,
     }
 }

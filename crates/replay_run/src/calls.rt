@@ -66,6 +66,7 @@ fn head(verb: &Verb) -> Head<'_>
     match verb {
         Verb::Malloc { name, .. } => Head::Malloc(name.as_bytes()),
         Verb::Memalign { name, .. } => Head::Memalign(name.as_bytes()),
+        Verb::Realloc { name, .. } => Head::Realloc(name.as_bytes()),
         Verb::Free(_) => Head::Free,
         Verb::Publish(_) => Head::Publish,
         Verb::Take(_) => Head::Take,
@@ -82,6 +83,8 @@ fn head(verb: &Verb) -> Head<'_>
         Verb::Bind(_) => Head::Arena,
         Verb::Cache(_) => Head::Cache,
         Verb::Flush => Head::Flush,
+        Verb::MallocIn { name, .. } => Head::MallocIn(name.as_bytes()),
+        Verb::FreeIn { .. } => Head::FreeIn,
         Verb::CtlPlain(name) => ctl_head(name),
         Verb::CtlWrite { name, .. } => Head::Ctl(name.as_bytes()),
     }

@@ -31,7 +31,7 @@ pub fn events_leave()
     ensures { EventsLeave }
 {}
 
-/// In no world of a play anybody is shrinking a region in place.
+/// In no world of a play a client without an open call is shrinking a region in place.
 pub fn no_trims_open()
     ensures { NoTrimsOpen }
 {}

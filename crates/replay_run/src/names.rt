@@ -47,7 +47,7 @@ impl Names {
         Ok(())
     }
 
-    /// Binds the name of a malloc or a memalign whose answer gives a region to the region's address. Other calls bind none.
+    /// Binds the name of a malloc, a memalign, a realloc or a mallocx whose answer gives a region to the region's address. Other calls bind none.
     ///
     /// An `Err` says that a new name found no memory, and leaves the names as they were.
     #[inline(always)]
@@ -57,7 +57,10 @@ impl Names {
     {
         match (verb, answer) {
             (
-                Verb::Malloc { name, .. } | Verb::Memalign { name, .. },
+                Verb::Malloc { name, .. }
+                | Verb::Memalign { name, .. }
+                | Verb::Realloc { name, .. }
+                | Verb::MallocIn { name, .. },
                 Answered::Ok(Given::Region { addr, .. }),
             ) => self.bind(name, addr),
             _ => Ok(()),

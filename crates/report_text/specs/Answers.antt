@@ -9,9 +9,9 @@ use Rattle.space_model.specs.declared.asks.Answer.TheVariants.{Refused as HookRe
 use Rattle.space_model.specs.declared.entries.Why.{Why}
 use Rattle.space_model.specs.declared.entries.Why.TheVariants.{OffSpace, Unaligned, Meets}
 use Rattle.call_plan.specs.declared.needs.Answered.{Answered}
-use Rattle.call_plan.specs.declared.needs.Answered.TheVariants.{Ok, Refused, BadAnswer, TooLarge, BadAlign, NotHeld, NoArena, Busy, NoMemory, ArenasFull, Automatic}
+use Rattle.call_plan.specs.declared.needs.Answered.TheVariants.{Ok, Refused, BadAnswer, TooLarge, BadAlign, NotHeld, NoArena, Busy, NoMemory, ArenasFull, Automatic, NoCache, CachesFull}
 use Rattle.call_plan.specs.declared.needs.Given.{Given}
-use Rattle.call_plan.specs.declared.needs.Given.TheVariants.{Region, Done, Arena, Limits}
+use Rattle.call_plan.specs.declared.needs.Given.TheVariants.{Region, Done, Arena, Limits, Cache}
 use Rattle.report_text.specs.declared.heads.Head.{Head}
 use Rattle.report_text.specs.declared.heads.Head.TheVariants.{Take, Ctl, CtlDone}
 use Rattle.report_text.specs.Places.{address_text, page_text, span_text}
@@ -39,12 +39,13 @@ abbrev pub limit_text : Option ℕ → List ℕ
 limit_text None = codes "-"
 limit_text (Some pages) = decimal pages
 
--- what a call gives: a region's address and the size of its class, an arena's index, the limits of its unused pages, or
+-- what a call gives: a region's address and the size of its class, an arena's index, an explicit cache's identifier, the limits of its unused pages, or
 -- nothing
 abbrev pub given_text : Given → List ℕ
 given_text (Region addr class) = address_text addr ++ codes " " ++ decimal (size_at class)
 given_text Done = codes "ok"
 given_text (Arena index) = decimal index
+given_text (Cache slot) = decimal slot
 given_text (Limits dirty muzzy) = codes "dirty " ++ limit_text dirty ++ codes " muzzy " ++ limit_text muzzy
 
 -- what uses an arena that can't be reset or destroyed
@@ -65,6 +66,8 @@ answer_text (Busy held flights threads) = busy_text held flights threads
 answer_text NoMemory = codes "no memory"
 answer_text ArenasFull = codes "arenas full"
 answer_text Automatic = codes "automatic arena"
+answer_text (NoCache slot) = codes "no cache " ++ decimal slot
+answer_text CachesFull = codes "caches full"
 
 -- the answer of a call of a control: so is told what it gives, and another answer stands behind `EFAULT`
 abbrev pub ctl_ended : (Given → List ℕ) → Answered → List ℕ

@@ -36,6 +36,8 @@ impl fmt::Display for AnswerText {
             Answered::NoMemory => f.write_str("no memory"),
             Answered::ArenasFull => f.write_str("arenas full"),
             Answered::Automatic => f.write_str("automatic arena"),
+            Answered::NoCache(slot) => write!(f, "no cache {slot}"),
+            Answered::CachesFull => f.write_str("caches full"),
         }
     }
 }
@@ -52,6 +54,7 @@ impl fmt::Display for GivenText {
             Given::Region { addr, class } => write!(f, "@{addr:x} {}", size(class)),
             Given::Done => f.write_str("ok"),
             Given::Arena(index) => write!(f, "{index}"),
+            Given::Cache(slot) => write!(f, "{slot}"),
             Given::Limits { dirty, muzzy } => {
                 write!(f, "dirty {} muzzy {}", LimitText(dirty), LimitText(muzzy))
             }

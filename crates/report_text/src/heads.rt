@@ -8,14 +8,16 @@ use crate::rows::Row;
 /// How many bytes a name has at most that is laid in a row.
 const SHORT_NAME: usize = 32;
 
-/// What names a call in its line: its first word, and behind it the name that a malloc or a memalign binds, or that of a
-/// control. It also says how the answer is told.
+/// What names a call in its line: its first word, and behind it the name that a malloc, a memalign or a realloc binds, or
+/// that of a control. It also says how the answer is told.
 #[derive(Clone, Copy)]
 pub enum Head<'a> {
     /// `malloc NAME`.
     Malloc(&'a [u8]),
     /// `memalign NAME`.
     Memalign(&'a [u8]),
+    /// `realloc NAME`.
+    Realloc(&'a [u8]),
     /// `free`.
     Free,
     /// `publish`.
@@ -42,6 +44,10 @@ pub enum Head<'a> {
     Cache,
     /// `flush`.
     Flush,
+    /// `mallocx NAME`.
+    MallocIn(&'a [u8]),
+    /// `freex`.
+    FreeIn,
     /// `ctl NAME`, of a call that tells what it gives.
     Ctl(&'a [u8]),
     /// `ctl NAME`, of a call that tells `ok` in place of what it gives, as one for all arenas at once.
@@ -55,6 +61,7 @@ pub(crate) fn word(head: Head<'_>) -> &'static str
     match head {
         Head::Malloc(_) => "malloc",
         Head::Memalign(_) => "memalign",
+        Head::Realloc(_) => "realloc",
         Head::Free => "free",
         Head::Publish => "publish",
         Head::Take => "take",
@@ -68,6 +75,8 @@ pub(crate) fn word(head: Head<'_>) -> &'static str
         Head::Arena => "arena",
         Head::Cache => "cache",
         Head::Flush => "flush",
+        Head::MallocIn(_) => "mallocx",
+        Head::FreeIn => "freex",
         Head::Ctl(_) | Head::CtlDone(_) => "ctl",
     }
 }
@@ -78,9 +87,12 @@ pub(crate) fn has_short_name(head: Head<'_>) -> bool
     ensures { result ≡ true → length (head_name head.entry) ≤ 33 }
 {
     match head {
-        Head::Malloc(name) | Head::Memalign(name) | Head::Ctl(name) | Head::CtlDone(name) => {
-            name.len() <= SHORT_NAME
-        }
+        Head::Malloc(name)
+        | Head::Memalign(name)
+        | Head::Realloc(name)
+        | Head::MallocIn(name)
+        | Head::Ctl(name)
+        | Head::CtlDone(name) => name.len() <= SHORT_NAME,
         _ => true,
     }
 }
@@ -101,6 +113,14 @@ pub(crate) fn lay_head(row: &mut Row, head: Head<'_>)
         Head::Memalign(name) => {
             row.lay_text(name);
             row.lay_text(b"memalign ");
+        }
+        Head::Realloc(name) => {
+            row.lay_text(name);
+            row.lay_text(b"realloc ");
+        }
+        Head::MallocIn(name) => {
+            row.lay_text(name);
+            row.lay_text(b"mallocx ");
         }
         Head::Ctl(name) | Head::CtlDone(name) => {
             row.lay_text(name);

@@ -38,9 +38,10 @@ pub fn call_line(
     match (head, answered) {
         (Head::Take, Answered::Ok(Given::Region { .. })) => row.lay_text(b" ok\n"),
         (_, Answered::Ok(Given::Done)) => row.lay_text(b" ok\n"),
-        (Head::Malloc(_) | Head::Memalign(_), Answered::Ok(Given::Region { addr, class })) => {
-            lay_region(&mut row, *addr, *class);
-        }
+        (
+            Head::Malloc(_) | Head::Memalign(_) | Head::Realloc(_) | Head::MallocIn(_),
+            Answered::Ok(Given::Region { addr, class }),
+        ) => lay_region(&mut row, *addr, *class),
         _ => return rare_line(out, client, head, answered),
     }
     lay_head(&mut row, head);
@@ -73,7 +74,12 @@ fn write_name(out: &mut Vec<u8>, head: Head<'_>) -> Result<(), NoMemory>
     ensures { OnOk result (out.new.items ≡ out.old.items ++ head_name head.entry) }
 {
     match head {
-        Head::Malloc(name) | Head::Memalign(name) | Head::Ctl(name) | Head::CtlDone(name) => {
+        Head::Malloc(name)
+        | Head::Memalign(name)
+        | Head::Realloc(name)
+        | Head::MallocIn(name)
+        | Head::Ctl(name)
+        | Head::CtlDone(name) => {
             out.push(b' ')?;
             out.extend_from_slice(name)
         }

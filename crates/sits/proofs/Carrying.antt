@@ -1,11 +1,11 @@
 -- What a turn of a client does to the regions that it holds, and to those that it has.
-use Rattle.sits.proofs.Words.{[], ◌≡◌, ◌≢◌, ℕ, ◌+◌, ◌-◌, ◌*◌, ◌<◌, ◌≤◌, ◌==◌, ◌&&◌, Bool, true, false, cond, cond_both, List, ◌∷◌, Option, None, Some, length, map, refl, sym, ◌∙◌, ap, subst, arith, suc, zero, filter, find, nat_lt, count_by, list_any, range_with_len, eqb-true, ltb-true, length-map, length-take, All-cons, All-nil, All-weaker, filter_passes, length-range_with_len, sum_by-cons, regions_at, size_at, Region, flight_count, held_count, is_published_at, take_over_at, is_flight_at, address_of, is_held_by_other, landing, region_of, regions_from, IsPlaced, is_live, stays, step_of, Stepped, is_dirty_time_over, is_lazy, find_has, both_true, discarding, empty_handed, gave, is_in_arena, Request, Wish, Change, Leaves, TurnPoint, Filling, Landing, Giving, Changing, Resetting, Destroying, Publishing, Owning, Reply, Noted, Purge, Set, Setting, Space, Part, Span, Sound, mine, Held, DeskFacts, cached_of, freeing, going, most_regions, fill_at, land_at, lowest_free, address_behind, desk_turned, flushes, landed_behind, held_region, sharing, KnowsTurn, op_at, HasSlots, IsTheHand, SuitsTurn, or-false}
+use Rattle.sits.proofs.Words.{[], ◌≡◌, ◌≢◌, ℕ, ◌+◌, ◌-◌, ◌*◌, ◌<◌, ◌≤◌, ◌==◌, ◌&&◌, Bool, true, false, cond, cond_both, List, ◌∷◌, Option, None, Some, length, map, refl, sym, ◌∙◌, ap, subst, arith, suc, zero, filter, find, nat_lt, count_by, list_any, range_with_len, eqb-true, ltb-true, length-map, length-take, All-cons, All-nil, All-weaker, filter_passes, length-range_with_len, sum_by-cons, regions_at, size_at, Region, flight_count, held_count, is_published_at, take_over_at, is_flight_at, address_of, is_held_by_other, landing, region_of, regions_from, IsPlaced, is_live, stays, step_of, Stepped, is_dirty_time_over, is_lazy, find_has, both_true, discarding, empty_handed, gave, is_in_arena, Request, Wish, Change, Leaves, TurnPoint, Filling, Landing, Giving, Changing, Resetting, Destroying, Publishing, Owning, Reply, Noted, Purge, Set, Setting, Space, Part, Span, Sound, mine, Held, DeskFacts, cached_of, freeing, going, most_regions, fill_at, land_at, lowest_free, address_behind, desk_turned, flushes, landed_behind, held_region, sharing, KnowsTurn, op_at, HasSlots, IsTheHand, SuitsTurn, or-false, gaining, taking_place}
 use Rattle.call_plan.specs.Words.{NoArena}
-use Rattle.sits.proofs.Hands.{Count, Hands, Single, hands_come, hands_discard, hands_part}
-use Rattle.sits.proofs.Having.{Shaped, discard_shaped, free_gains, of_hand, over, share_all}
+use Rattle.sits.proofs.Hands.{Count, Hands, Single, hands_come, hands_gain, hands_discard, hands_part}
+use Rattle.sits.proofs.Having.{Shaped, gain_gains, share_stays, discard_shaped, free_gains, of_hand, over, share_all}
 use Rattle.sits.proofs.Parting.{Parts, addrs_any, batch_addrs, gave_parts}
 use Rattle.sits.proofs.Regions.{any_at, back_counts, behind_is, count_at, landed_counts, none_elsewhere, one_in, op_regions, published_counts, taken_counts}
-use Rattle.sits.proofs.Suiting.{came}
+use Rattle.sits.proofs.Suiting.{came, handed}
 
 -- What a client has after a turn is what it holds then, and in order.
 pub record Carried (together : Bool) (m : Count) (extra : List Held) (after : DeskFacts) : Type 0 where
@@ -50,7 +50,7 @@ module _ (together : Bool) (n m : Count) (c arena : ℕ) (s : Space) (desk : Des
       Carried together m [] (desk_turned desk arena (Changing setting change) reply)
   change setting (Leaves old) Noted t same now = record {
     hands = stay_hands (record desk { arena = arena }) (λ f. refl) t same now;
-    shaped = record { keyed = shaped.keyed; lists = shaped.lists; classed = shaped.classed };
+    shaped = record { keyed = shaped.keyed; lists = shaped.lists; classed = shaped.classed; places = shaped.places };
   }
   change setting chosen reply t same now = stay t same now
 
@@ -69,26 +69,44 @@ module _ (together : Bool) (n m : Count) (c arena : ℕ) (s : Space) (desk : Des
         shaped = shares.shaped;
       }
 
-  fill : (wish : Wish) (count : ℕ) → HasSlots desk wish.class count → (addrs : List ℕ) → length addrs ≤ count → Carries (Filling wish count) (fill_at s c wish.class addrs)
-  fill wish count slots [] few now = stay s refl now
-  fill wish count slots (addr ∷ addrs) few now = come wish.class addr addrs count (fill_at s c wish.class (addr ∷ addrs)).after refl (omega (arith, few)) slots now
+  -- the first one takes the place of the one in hand, if that is wanted
+  take_place : (wish : Wish) (first : ℕ) (rest : List ℕ) → desk.gained ≡ None → Carried together m (held_region arena wish.class first ∷ []) (sharing arena wish.class rest desk) →
+      Carried together m (handed wish (held_region arena wish.class first)) (taking_place wish (held_region arena wish.class first) (sharing arena wish.class rest desk))
+  take_place wish first rest none carried = by wish.moves
+    where
+      own : Held
+      own = held_region arena wish.class first
 
-  filling : (wish : Wish) (count : ℕ) → HasSlots desk wish.class count → Carries (Filling wish count) (step_of s c (op_at (Filling wish count)))
-  filling wish count slots = cond_both (is_live s.life) _ _ (Carries (Filling wish count))
-      (λ _. fill wish count slots (lowest_free wish.class count s) (omega (arith, length-take {A = ℕ}))) (λ _ now. stay s refl now)
+      shared : DeskFacts
+      shared = sharing arena wish.class rest desk
 
-  landing_in : (wish : Wish) (span : Span) (o : Option Part) → find (is_flight_at c span) s.parts ≡ o → 0 < wish.count → wish.count ≤ most_regions wish.class → HasSlots desk wish.class wish.count →
+      by : (v : Bool) → Carried together m (cond v [] (own ∷ [])) (cond v (gaining own shared) shared)
+      by true =
+          let free : shared.gained ≡ None = (share_stays arena wish.class rest desk).2 ∙ none in
+          record { hands = hands_gain m own shared carried.hands carried.shaped free; shaped = (gain_gains own shared carried.shaped free).shaped }
+      by false = carried
+
+  fill : (wish : Wish) (count : ℕ) → HasSlots desk wish.class count → desk.gained ≡ None → (addrs : List ℕ) → length addrs ≤ count → Carries (Filling wish count) (fill_at s c wish.class addrs)
+  fill wish count slots none [] few now = stay s refl now
+  fill wish count slots none (addr ∷ addrs) few now = take_place wish addr addrs none (come wish.class addr addrs count (fill_at s c wish.class (addr ∷ addrs)).after refl (omega (arith, few)) slots now)
+
+  filling : (wish : Wish) (count : ℕ) → HasSlots desk wish.class count → desk.gained ≡ None → Carries (Filling wish count) (step_of s c (op_at (Filling wish count)))
+  filling wish count slots none = cond_both (is_live s.life) _ _ (Carries (Filling wish count))
+      (λ _. fill wish count slots none (lowest_free wish.class count s) (omega (arith, length-take {A = ℕ}))) (λ _ now. stay s refl now)
+
+  landing_in : (wish : Wish) (span : Span) (o : Option Part) → find (is_flight_at c span) s.parts ≡ o → 0 < wish.count → wish.count ≤ most_regions wish.class → HasSlots desk wish.class wish.count → desk.gained ≡ None →
       Carries (Landing wish span) (land_at s c wish.class wish.count o)
-  landing_in wish span None e some few slots now = stay s refl now
-  landing_in wish span (Some p) e some few slots now =
+  landing_in wish span None e some few slots none now = stay s refl now
+  landing_in wish span (Some p) e some few slots none now =
       let placed = find_has (λ (q : Part). IsPlaced q.span) (is_flight_at c span) s.parts p sound.placed e in
       let low : p.span.first ≤ 536870912 = omega (arith, placed.2) in
       let first : ℕ = address_of p.span.first in
       let all : regions_from c wish.class first wish.count ≡ map (region_of c wish.class) (first ∷ addrs_from wish.class first 1 (wish.count - 1)) = begins wish.count first some ∙ ap (λ xs. map (region_of c wish.class) (first ∷ xs)) refl in
       let same : landed_behind first wish.class wish.count ≡ addrs_from wish.class first 1 (wish.count - 1) = behind p.span.first low in
-      subst (λ rest. Carried together m (held_region arena wish.class first ∷ []) (sharing arena wish.class rest desk)) (sym same)
+      take_place wish first (landed_behind first wish.class wish.count) none
+      (subst (λ rest. Carried together m (held_region arena wish.class first ∷ []) (sharing arena wish.class rest desk)) (sym same)
       (come wish.class first (addrs_from wish.class first 1 (wish.count - 1)) wish.count (land_at s c wish.class wish.count (Some p)).after (ap (λ come. landing come s.regions) all)
-      (let long = length-map (range_with_len 1 (wish.count - 1)) (λ i. first + i * size_at wish.class) in omega (arith, some, long, length-range_with_len 1 (wish.count - 1))) slots now)
+      (let long = length-map (range_with_len 1 (wish.count - 1)) (λ i. first + i * size_at wish.class) in omega (arith, some, long, length-range_with_len 1 (wish.count - 1))) slots now))
     where
       begins : (count first : ℕ) → 0 < count → regions_from c wish.class first count ≡ map (region_of c wish.class) (first ∷ addrs_from wish.class first 1 (count - 1))
       begins zero first some = absurd (omega (arith, some))
@@ -132,7 +150,7 @@ module _ (together : Bool) (n m : Count) (c arena : ℕ) (s : Space) (desk : Des
       by (Some r) e is =
           let parts : Parts desk (empty_handed desk) (r ∷ []) = record {
             less = λ f. let had : of_hand f desk.hand ≡ f r = ap (of_hand f) e in omega (arith, had, sum_by-cons f r []);
-            shaped = record { keyed = shaped.keyed; lists = shaped.lists; classed = shaped.classed };
+            shaped = record { keyed = shaped.keyed; lists = shaped.lists; classed = shaped.classed; places = shaped.places };
             arena = refl;
           } in record {
             hands = hands_part n m arena (r ∷ []) desk (empty_handed desk) single hands parts (All-cons (λ (q : Held). q.arena ≡ arena) r [] is.1 (All-nil (λ (q : Held). q.arena ≡ arena)))
@@ -142,8 +160,8 @@ module _ (together : Bool) (n m : Count) (c arena : ℕ) (s : Space) (desk : Des
 
   -- ---- all regions go
 
-  emptied_hands : desk.hand ≡ None → cached_of arena desk ≡ 0 → ((a k : ℕ) → m arena a k ≡ 0) → Carried together m [] (discarding arena desk)
-  emptied_hands empty none now = record { hands = hands_discard n m arena desk hands empty none now others; shaped = discard_shaped arena desk shaped }
+  emptied_hands : desk.hand ≡ None → desk.gained ≡ None → cached_of arena desk ≡ 0 → ((a k : ℕ) → m arena a k ≡ 0) → Carried together m [] (discarding arena desk)
+  emptied_hands empty no_gain none now = record { hands = hands_discard n m arena desk hands empty no_gain none now others; shaped = discard_shaped arena desk shaped }
 
   none_cached : (cached others flights threads : ℕ) → cached ≡ cached_of arena desk → (others + cached == 0 && flights == 0 && threads == 0) ≡ true → cached_of arena desk ≡ 0
   none_cached cached others flights threads is free =
@@ -152,7 +170,7 @@ module _ (together : Bool) (n m : Count) (c arena : ℕ) (s : Space) (desk : Des
   resetting : (cached : ℕ) → SuitsTurn desk request arena (Resetting cached) → Carries (Resetting cached) (step_of s c (op_at (Resetting cached)))
   resetting cached suits = cond_both (is_live s.life) _ _ (Carries (Resetting cached)) (λ _.
       cond_both (held_count s c cached == 0 && flight_count s c == 0 && zero == 0) _ _ (Carries (Resetting cached))
-      (λ free now. reset (is_dirty_time_over s) (emptied_hands suits.0 (none_cached cached (count_by (is_held_by_other c) s.regions) (flight_count s c) 0 suits.1 free) now)) (λ _ now. stay s refl now))
+      (λ free now. reset (is_dirty_time_over s) (emptied_hands suits.0 suits.2 (none_cached cached (count_by (is_held_by_other c) s.regions) (flight_count s c) 0 suits.1 free) now)) (λ _ now. stay s refl now))
       (λ _ now. stay s refl now)
     where
       reset : (over : Bool) → Carried together m [] (discarding arena desk) → Carried together m [] (desk_turned desk arena (Resetting cached) (cond over (Purge (is_lazy s)) Noted))
@@ -162,7 +180,7 @@ module _ (together : Bool) (n m : Count) (c arena : ℕ) (s : Space) (desk : Des
   destroying : (cached : ℕ) → SuitsTurn desk request arena (Destroying cached) → Carries (Destroying cached) (step_of s c (op_at (Destroying cached)))
   destroying cached suits = cond_both (is_live s.life) _ _ (Carries (Destroying cached)) (λ _.
       cond_both (held_count s c cached == 0 && flight_count s c == 0 && length s.bound == 0) _ _ (Carries (Destroying cached))
-      (λ free now. emptied_hands suits.0 (none_cached cached (count_by (is_held_by_other c) s.regions) (flight_count s c) (length s.bound) suits.1 free) now) (λ _ now. stay s refl now))
+      (λ free now. emptied_hands suits.0 suits.2 (none_cached cached (count_by (is_held_by_other c) s.regions) (flight_count s c) (length s.bound) suits.1 free) now) (λ _ now. stay s refl now))
       (λ _ now. stay s refl now)
 
   -- ---- a region that is taken over
@@ -200,12 +218,12 @@ module _ (together : Bool) (n m : Count) (c arena : ℕ) (s : Space) (desk : Des
   left point = (step_of s c (op_at point)).after
 
   pub carries : (point : TurnPoint) → KnowsTurn (mine c s) point → SuitsTurn desk request arena point → Carries point (step_of s c (op_at point))
-  carries (Filling wish count) knows suits now = filling wish count suits.0.slots now
-  carries (Landing wish span) knows suits now = landing_in wish span (find (is_flight_at c span) s.parts) refl knows.0.is.some knows.0.is.fewer suits.slots now
+  carries (Filling wish count) knows suits now = filling wish count suits.0.slots suits.0.none now
+  carries (Landing wish span) knows suits now = landing_in wish span (find (is_flight_at c span) s.parts) refl knows.0.is.some knows.0.is.fewer suits.slots suits.none now
   carries (Giving addrs) knows suits now = giving addrs suits now
   carries (Changing setting chosen) knows suits now = change setting chosen (step_of s c (op_at (Changing setting chosen))).reply (left (Changing setting chosen)) (op_regions s c (Set setting) tt) now
   carries (Resetting cached) knows suits now = resetting cached suits now
   carries (Destroying cached) knows suits now = destroying cached suits now
   carries (Publishing addr) knows suits now = publishing addr suits now
-  carries (Owning addr frees past) knows suits now = owning addr frees past suits now
+  carries (Owning addr frees past) knows suits now = owning addr frees past suits.0 now
   carries point knows suits now = stay (left point) (op_regions s c (op_at point) tt) now

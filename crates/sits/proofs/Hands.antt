@@ -1,7 +1,8 @@
 -- The regions that a client has are such that it holds in the arenas, however they are counted there.
-use Rattle.sits.proofs.Words.{[], IsOf, ◌≡◌, ◌≢◌, ℕ, ◌+◌, ◌<◌, ◌≤◌, ◌==◌, ◌&&◌, ◌||◌, inl, inr, Bool, true, false, cond, List, ◌∷◌, All, None, Some, length, get_or, cases_lt, refl, sym, ◌∙◌, ap, subst, arith, suc, nat_eq, filter, count_by, flat_map, sum_by, lookup, eqb-true, nat_tests, All-head, All-tail, get_or-le-sum_by, sum_by-cons, Region, eqb_itself, ones, is_elsewhere, discarding, holding, is_in_arena, Held, DeskFacts, cached_of, held_at, is_region, both_true, Has}
+use Rattle.sits.proofs.Words.{[], IsOf, ◌≡◌, ◌≢◌, ℕ, ◌+◌, ◌<◌, ◌≤◌, ◌==◌, ◌&&◌, ◌||◌, inl, inr, Bool, true, false, cond, List, ◌∷◌, All, None, Some, length, get_or, cases_lt, refl, sym, ◌∙◌, ap, subst, arith, suc, nat_eq, filter, count_by, flat_map, sum_by, lookup, eqb-true, nat_tests, All-head, All-tail, get_or-le-sum_by, sum_by-cons, Region, eqb_itself, ones, is_elsewhere, discarding, holding, is_in_arena, Held, DeskFacts, cached_of, held_at, is_region, both_true, Has, gaining}
 use Rattle.sits.proofs.Counting.{as_many, shifts, through}
-use Rattle.sits.proofs.Having.{IsKeyed, Shaped, hold_of, none_found, of_entry, of_hand, over}
+use Rattle.cache_set.specs.Sets.{explicit}
+use Rattle.sits.proofs.Having.{IsKeyed, Shaped, gain_gains, hold_of, none_found, of_entry, of_hand, over}
 use Rattle.sits.proofs.Indexes.{at_or_else}
 use Rattle.sits.proofs.Parting.{Parts}
 use Rattle.sits.proofs.Regions.{any_at, filtered_sum, one_in}
@@ -46,7 +47,7 @@ held_counts f k desk q is found = (found_is f k desk.held q is.keyed found).1
 
 -- a region that a client has beside those that are held is at the address of none of them, where no page is in two arenas
 pub stands_alone : {together : Bool} (n : Count) (extra : List Held) (desk : DeskFacts) (r : Held) → Single together n → Hands together n extra desk → Shaped desk →
-    ((f : Held → ℕ) → f r ≤ sum_by f extra + (sum_by f (flat_map (λ l. l) desk.cached) + of_hand f desk.hand)) → together ≡ true → held_at r.addr desk ≡ None
+    ((f : Held → ℕ) → f r ≤ sum_by f extra + (sum_by f (flat_map (λ l. l) desk.cached) + of_hand f desk.hand + of_hand f desk.gained)) → together ≡ true → held_at r.addr desk ≡ None
 stands_alone n extra desk r single hands is beside known = none_found r.addr desk.held (λ q found. absurd (twice q found))
   where
     twice : (q : Held) → held_at r.addr desk ≡ Some q → ⊥
@@ -79,6 +80,15 @@ hands_held together n r desk single hands is i a k =
 -- the one in hand is at the address of none that is held
 pub hand_alone : {together : Bool} (n : Count) (desk : DeskFacts) (r : Held) → Single together n → Hands together n [] desk → Shaped desk → desk.hand ≡ Some r → together ≡ true → held_at r.addr desk ≡ None
 hand_alone n desk r single hands is e = stands_alone n [] desk r single hands is (λ f. let own : of_hand f desk.hand ≡ f r = ap (of_hand f) e in omega (arith, own))
+
+-- nor is the one gained
+pub gained_alone : {together : Bool} (n : Count) (desk : DeskFacts) (r : Held) → Single together n → Hands together n [] desk → Shaped desk → desk.gained ≡ Some r → together ≡ true → held_at r.addr desk ≡ None
+gained_alone n desk r single hands is e = stands_alone n [] desk r single hands is (λ f. let own : of_hand f desk.gained ≡ f r = ap (of_hand f) e in omega (arith, own))
+
+-- a region that came takes the place of the one in hand
+pub hands_gain : {together : Bool} (n : Count) (r : Held) (desk : DeskFacts) → Hands together n (r ∷ []) desk → Shaped desk → desk.gained ≡ None → Hands together n [] (gaining r desk)
+hands_gain n r desk hands is none i a k =
+    let gains = gain_gains r desk is none in shifts (hands i a k) (omega (arith, gains.more (one_in i a k), sum_by-cons (one_in i a k) r []))
 
 -- ---- regions come and go in an arena
 
@@ -149,19 +159,21 @@ elsewhere_sum arena i a k es = filtered_sum (of_entry (one_in i a k)) (λ (e : �
     one : (r : Held) → cond (is_elsewhere arena r) (one_in i a k r) 0 ≡ cond (i == arena) 0 (one_in i a k r)
     one r = grind (arith, nat_tests)
 
--- all regions of an arena go, of which the client has none cached
-pub hands_discard : {together : Bool} (n m : Count) (arena : ℕ) (desk : DeskFacts) → Hands together n [] desk → desk.hand ≡ None → cached_of arena desk ≡ 0 →
+-- all regions of an arena go, of which the client has none cached, in its own cache or in explicit ones
+pub hands_discard : {together : Bool} (n m : Count) (arena : ℕ) (desk : DeskFacts) → Hands together n [] desk → desk.hand ≡ None → desk.gained ≡ None → cached_of arena desk ≡ 0 →
     ((a k : ℕ) → m arena a k ≡ 0) → ((i a k : ℕ) → i ≢ arena → m i a k ≡ n i a k) → Hands together m [] (discarding arena desk)
-hands_discard {together} n m arena desk hands empty none here others i a k = by (i == arena) refl (elsewhere_sum arena i a k desk.held)
+hands_discard {together} n m arena desk hands empty no_gain none here others i a k = by (i == arena) refl (elsewhere_sum arena i a k desk.held)
   where
     by : (v : Bool) → (i == arena) ≡ v → sum_by (of_entry (one_in i a k)) (filter (λ (e : ℕ × Held). is_elsewhere arena e.1) desk.held) ≡ cond v 0 (sum_by (of_entry (one_in i a k)) desk.held) →
         IsOf together (sum_by (one_in i a k) [] + over (one_in i a k) (discarding arena desk)) (m i a k)
     by true e kept =
         let same : i ≡ arena = eqb-true i arena e in
         let now : m i a k ≡ 0 = subst (λ j. m j a k ≡ 0) (sym same) (here a k) in
-        let cached : sum_by (one_in i a k) (flat_map (λ l. l) desk.cached) ≡ 0 = subst (λ j. sum_by (one_in j a k) (flat_map (λ l. l) desk.cached) ≡ 0) (sym same) (none_of_arena arena a k (flat_map (λ l. l) desk.cached) none) in
+        let cached : sum_by (one_in i a k) (flat_map (λ l. l) desk.cached) ≡ 0 = subst (λ j. sum_by (one_in j a k) (flat_map (λ l. l) desk.cached) ≡ 0) (sym same) (none_of_arena arena a k (flat_map (λ l. l) desk.cached) (omega (arith, none))) in
+        let others : sum_by (one_in i a k) (explicit desk.set) ≡ 0 = subst (λ j. sum_by (one_in j a k) (explicit desk.set) ≡ 0) (sym same) (none_of_arena arena a k (explicit desk.set) (omega (arith, none))) in
         let hand : of_hand (one_in i a k) desk.hand ≡ 0 = ap (of_hand (one_in i a k)) empty in
-        as_many (omega (arith, now, kept, cached, hand))
+        let gained : of_hand (one_in i a k) desk.gained ≡ 0 = ap (of_hand (one_in i a k)) no_gain in
+        as_many (omega (arith, now, kept, cached, others, hand, gained))
     by false e kept =
         let differ : i ≢ arena = λ same. grind (arith, nat_tests) in
         shifts (hands i a k) (omega (arith, others i a k differ, kept))

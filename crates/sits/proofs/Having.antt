@@ -1,5 +1,7 @@
 -- What changes of what a client has do to its regions.
-use Rattle.sits.proofs.Words.{[], IsOf, empty_handed, ◌≡◌, ℕ, ◌+◌, ◌-◌, ◌<◌, ◌≤◌, ◌==◌, ◌&&◌, ◌≢◌, Bool, true, false, cond, List, ◌∷◌, ◌++◌, All, Option, None, Some, length, map, get_or, take, drop, slice_set, refl, sym, ◌∙◌, ap, subst, arith, nat_lt, lt-ltb, flat_map, sum_by, ltb-true, nat_tests, get_or_from_slice_get, slice_get-get_or, slice_get_within, drop_more, length-drop, nil_from_length, get_or-set_other, get_or-set_same, length-set, All-append, All-cons, All-filter, All-nil, All-take, sum_by-cons, sum_by-take-drop, sum_by_push, both_true, is_elsewhere, put_in, before_last, discarding, has_slot, held_again, held_again_with, holding, kept, kept_with, not_holding, Held, DeskFacts, caching, freeing, held_at, hit, hitting, is_cacheable, slots_at, cached_in, held_region, sharing, length-map, suc, zero, nat_eq, position, swap_remove, keys_of, lookup, option_map_or, eqb-true, flat_map-cons, All-head, All-set, All-tail, sum_by-append, sum_by-swap_remove, Found-position, Missing-position, slice_get, insert_entry, swap_remove_entry}
+use Rattle.sits.proofs.Words.{[], IsOf, empty_handed, ◌≡◌, ℕ, ◌+◌, ◌-◌, ◌<◌, ◌≤◌, ◌==◌, ◌&&◌, ◌≢◌, Bool, true, false, cond, List, ◌∷◌, ◌++◌, All, Option, None, Some, length, map, get_or, take, drop, slice_set, refl, sym, ◌∙◌, ap, subst, arith, nat_lt, lt-ltb, flat_map, sum_by, ltb-true, nat_tests, get_or_from_slice_get, slice_get-get_or, slice_get_within, drop_more, length-drop, nil_from_length, get_or-set_other, get_or-set_same, length-set, All-append, All-cons, All-filter, All-nil, All-take, sum_by-cons, sum_by-take-drop, sum_by_push, both_true, is_elsewhere, put_in, before_last, discarding, has_slot, held_again, held_again_with, holding, kept, kept_with, not_holding, Held, DeskFacts, caching, freeing, held_at, hit, hitting, is_cacheable, slots_at, cached_in, held_region, sharing, length-map, suc, zero, nat_eq, position, swap_remove, keys_of, lookup, option_map_or, eqb-true, flat_map-cons, All-head, All-set, All-tail, sum_by-append, sum_by-swap_remove, Found-position, Missing-position, slice_get, insert_entry, swap_remove_entry, freed_with, gaining, reclassing, reclassing_with, gain_held, gain_held_with}
+use Rattle.cache_set.specs.Sets.{explicit}
+use Rattle.sits.specs.Sitting.{IsInClasses}
 use Rattle.std.proofs.lemmas.List.{length-append, get_or-map}
 use Rattle.sits.proofs.Counting.{as_many, shifts}
 
@@ -77,20 +79,21 @@ sum_set f (l ∷ ls) (suc k) list within = simp (flat_map-cons, sum_by-append) (
 
 -- ---- what changes of what a client has do to its regions
 
--- what is summed over the region in hand
+-- what is summed over the region in hand, or the one gained
 abbrev pub of_hand : (Held → ℕ) → Option Held → ℕ
 of_hand f None = 0
 of_hand f (Some r) = f r
 
 -- a sum over the regions that a client has
 abbrev pub over : (Held → ℕ) → DeskFacts → ℕ
-over f desk = sum_by (of_entry f) desk.held + sum_by f (flat_map (λ l. l) desk.cached) + of_hand f desk.hand
+over f desk = sum_by (of_entry f) desk.held + sum_by f (flat_map (λ l. l) desk.cached) + of_hand f desk.hand + of_hand f desk.gained + sum_by f (explicit desk.set)
 
 -- What a client has is in order: what is held by its address, and what is cached by its class.
 pub record Shaped (desk : DeskFacts) : Type 0 where
   pub keyed : All IsKeyed desk.held
   pub lists : length desk.cached ≡ 41
   pub classed : (class : ℕ) → All (λ (r : Held). r.class ≡ class) (cached_in desk.cached class)
+  pub places : All IsInClasses desk.set
 
 -- ---- what is held
 
@@ -110,17 +113,17 @@ pub hold_of : (together : Bool) (f : Held → ℕ) (r : Held) (desk : DeskFacts)
 hold_of together f r desk free = record { within = omega (arith, insert_within f desk.held r); all = λ e. hold_over f r desk (free e) }
 
 pub hold_shaped : (r : Held) (desk : DeskFacts) → Shaped desk → Shaped (holding r desk)
-hold_shaped r desk is = record { keyed = keyed_insert desk.held r is.keyed; lists = is.lists; classed = is.classed }
+hold_shaped r desk is = record { keyed = keyed_insert desk.held r is.keyed; lists = is.lists; classed = is.classed; places = is.places }
 
 pub drop_over : (f : Held → ℕ) (addr : ℕ) (r : Held) (desk : DeskFacts) → held_at addr desk ≡ Some r → over f (not_holding addr desk) + f r ≡ over f desk
 drop_over f addr r desk found = omega (arith, sum_remove f desk.held addr r found)
 
 pub drop_shaped : (addr : ℕ) (desk : DeskFacts) → Shaped desk → Shaped (not_holding addr desk)
-drop_shaped addr desk is = record { keyed = keyed_remove desk.held addr is.keyed; lists = is.lists; classed = is.classed }
+drop_shaped addr desk is = record { keyed = keyed_remove desk.held addr is.keyed; lists = is.lists; classed = is.classed; places = is.places }
 
 pub discard_shaped : (arena : ℕ) (desk : DeskFacts) → Shaped desk → Shaped (discarding arena desk)
 discard_shaped arena desk is =
-    record { keyed = All-filter (λ (e : ℕ × Held). is_elsewhere arena e.1) IsKeyed desk.held is.keyed; lists = is.lists; classed = is.classed }
+    record { keyed = All-filter (λ (e : ℕ × Held). is_elsewhere arena e.1) IsKeyed desk.held is.keyed; lists = is.lists; classed = is.classed; places = is.places }
 
 -- ---- one list of the cache changes
 
@@ -130,6 +133,7 @@ set_classed desk class list is all small = record {
   keyed = is.keyed;
   lists = length-set desk.cached class list ∙ is.lists;
   classed = λ k. by k (class == k) refl;
+  places = is.places;
 }
   where
     by : (k : ℕ) (v : Bool) → (class == k) ≡ v → All (λ (r : Held). r.class ≡ k) (get_or (slice_set desk.cached class list) k [])
@@ -165,6 +169,9 @@ cache_shaped r desk small slot is =
 pub cache_hand : (r : Held) (desk : DeskFacts) → (caching r desk).hand ≡ desk.hand
 cache_hand r desk = grind arith
 
+pub cache_gained : (r : Held) (desk : DeskFacts) → (caching r desk).gained ≡ desk.gained
+cache_gained r desk = grind arith
+
 pub cache_arena : (r : Held) (desk : DeskFacts) → (caching r desk).arena ≡ desk.arena
 cache_arena r desk = grind arith
 
@@ -194,12 +201,14 @@ share_all arena class (addr ∷ addrs) desk is slots =
           ∙ omega (arith, length-append (cached_in shared.cached class) (r ∷ []), rest.long);
     }
 
--- what is in hand stays, and the arena from which the client allocates
-pub share_stays : (arena class : ℕ) (addrs : List ℕ) (desk : DeskFacts) → ((sharing arena class addrs desk).hand ≡ desk.hand) × ((sharing arena class addrs desk).arena ≡ desk.arena)
-share_stays arena class [] desk = (refl, refl)
+-- what is in hand stays, the arena from which the client allocates, and what is gained
+pub share_stays : (arena class : ℕ) (addrs : List ℕ) (desk : DeskFacts) →
+    ((sharing arena class addrs desk).hand ≡ desk.hand) × ((sharing arena class addrs desk).arena ≡ desk.arena) × ((sharing arena class addrs desk).gained ≡ desk.gained)
+share_stays arena class [] desk = (refl, refl, refl)
 share_stays arena class (addr ∷ addrs) desk =
     let shared : DeskFacts = sharing arena class addrs desk in
-    let rest = share_stays arena class addrs desk in (cache_hand (held_region arena class addr) shared ∙ rest.0, cache_arena (held_region arena class addr) shared ∙ rest.1)
+    let rest = share_stays arena class addrs desk in
+    (cache_hand (held_region arena class addr) shared ∙ rest.0, cache_arena (held_region arena class addr) shared ∙ rest.1, cache_gained (held_region arena class addr) shared ∙ rest.2)
 
 -- ---- a region that is freed
 
@@ -222,9 +231,47 @@ free_gains r desk is empty = by (is_cacheable r.class desk && has_slot r.class d
         }
     by false e = record {
       more = λ f. let none : of_hand f desk.hand ≡ 0 = ap (of_hand f) empty in omega (arith, none);
-      shaped = record { keyed = is.keyed; lists = is.lists; classed = is.classed };
+      shaped = record { keyed = is.keyed; lists = is.lists; classed = is.classed; places = is.places };
       arena = refl;
     }
+
+-- ---- a region that is gained
+
+-- a region that takes the place of the one in hand, if one is, is one more
+pub gain_gains : (r : Held) (desk : DeskFacts) → Shaped desk → desk.gained ≡ None → Gains desk (gaining r desk) r
+gain_gains r desk is none = by desk.hand refl
+  where
+    gained : DeskFacts
+    gained = record desk { gained = Some r }
+
+    had : (f : Held → ℕ) → of_hand f desk.gained ≡ 0
+    had f = ap (of_hand f) none
+
+    by : (hand : Option Held) → desk.hand ≡ hand → Gains desk (freed_with hand gained) r
+    by None e = record { more = λ f. omega (arith, had f); shaped = record { keyed = is.keyed; lists = is.lists; classed = is.classed; places = is.places }; arena = refl }
+    by (Some old) e =
+        let freed = free_gains old (empty_handed gained) (record { keyed = is.keyed; lists = is.lists; classed = is.classed; places = is.places }) refl in record {
+          more = λ f. let hand : of_hand f desk.hand ≡ f old = ap (of_hand f) e in omega (arith, had f, hand, freed.more f);
+          shaped = freed.shaped;
+          arena = freed.arena;
+        }
+
+-- the region in hand is gained with another class
+pub reclass_over : (f : Held → ℕ) (desk : DeskFacts) (r : Held) (class : ℕ) → desk.hand ≡ Some r → desk.gained ≡ None → over f (reclassing class desk) + f r ≡ over f desk + f (record r { class = class })
+reclass_over f desk r class e none =
+    let had : of_hand f desk.gained ≡ 0 = ap (of_hand f) none in
+    let hand : of_hand f desk.hand ≡ f r = ap (of_hand f) e in
+    subst (λ (o : Option Held). over f (reclassing_with o class desk) + f r ≡ over f desk + f (record r { class = class })) (sym e) (omega (arith, had, hand))
+
+pub reclass_shaped : (desk : DeskFacts) (class : ℕ) → Shaped desk → Shaped (reclassing class desk)
+reclass_shaped desk class is = by desk.hand
+  where
+    by : (hand : Option Held) → Shaped (reclassing_with hand class desk)
+    by None = is
+    by (Some r) = record { keyed = is.keyed; lists = is.lists; classed = is.classed; places = is.places }
+
+pub reclass_arena : (desk : DeskFacts) (class : ℕ) → (reclassing class desk).arena ≡ desk.arena
+reclass_arena desk class = grind arith
 
 -- ---- the region in hand
 
@@ -252,7 +299,7 @@ keep_settles together desk is can = by desk.hand refl can
               let none : of_hand f (caching r desk).hand ≡ f r = ap (of_hand f) (cache_hand r desk ∙ e) in
               let had : of_hand f desk.hand ≡ f r = ap (of_hand f) e in
               as_many (omega (arith, cache_over f r desk can.0 can.1 is, none, had));
-          shaped = record { keyed = shaped.keyed; lists = shaped.lists; classed = shaped.classed };
+          shaped = record { keyed = shaped.keyed; lists = shaped.lists; classed = shaped.classed; places = shaped.places };
           arena = cache_arena r desk;
           hand = refl;
         }
@@ -267,10 +314,41 @@ hold_settles together desk is free = by desk.hand refl
           same = λ f.
               let had : of_hand f desk.hand ≡ f r = ap (of_hand f) e in
               shifts (hold_of together f r (empty_handed desk) (free r e)) (omega (arith, had));
-          shaped = record { keyed = shaped.keyed; lists = shaped.lists; classed = shaped.classed };
+          shaped = record { keyed = shaped.keyed; lists = shaped.lists; classed = shaped.classed; places = shaped.places };
           arena = refl;
           hand = refl;
         }
+
+-- what is gained stays with what becomes of the one in hand
+pub kept_gained : (desk : DeskFacts) → (kept desk).gained ≡ desk.gained
+kept_gained desk = by desk.hand
+  where
+    by : (hand : Option Held) → (kept_with hand desk).gained ≡ desk.gained
+    by None = refl
+    by (Some r) = cache_gained r desk
+
+pub again_gained : (desk : DeskFacts) → (held_again desk).gained ≡ desk.gained
+again_gained desk = grind arith
+
+-- the region gained is held
+pub gain_settles : (together : Bool) (desk : DeskFacts) → Shaped desk → desk.hand ≡ None → ((r : Held) → desk.gained ≡ Some r → together ≡ true → held_at r.addr desk ≡ None) →
+    Settles together desk (gain_held desk) × ((gain_held desk).gained ≡ None)
+gain_settles together desk is empty free = by desk.gained refl
+  where
+    by : (gained : Option Held) → desk.gained ≡ gained → Settles together desk (gain_held_with gained desk) × ((gain_held_with gained desk).gained ≡ None)
+    by None e = (record { same = λ f. as_many refl; shaped = is; arena = refl; hand = empty }, e)
+    by (Some r) e =
+        let shaped = hold_shaped r desk is in (
+          record {
+            same = λ f.
+                let had : of_hand f desk.gained ≡ f r = ap (of_hand f) e in
+                shifts (hold_of together f r (record desk { gained = None }) (free r e)) (omega (arith, had));
+            shaped = record { keyed = shaped.keyed; lists = shaped.lists; classed = shaped.classed; places = shaped.places };
+            arena = refl;
+            hand = empty;
+          },
+          refl,
+        )
 
 -- ---- a region that was hit
 

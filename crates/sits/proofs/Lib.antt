@@ -3,10 +3,12 @@ pub mod Counting
 pub mod Indexes
 pub mod Clients
 pub mod Having
+pub mod Swapping
 pub mod Parting
 pub mod Regions
 pub mod Hands
 pub mod Suiting
+pub mod Resizes
 pub mod Carrying
 pub mod Settling
 pub mod Turns

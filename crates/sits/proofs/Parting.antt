@@ -51,6 +51,7 @@ all_part desk arena is = record {
   );
   shaped = record {
     keyed = is.keyed;
+    places = is.places;
     lists = length-map desk.cached (filter (is_elsewhere arena)) ∙ is.lists;
     classed = λ k. subst (All (λ (r : Held). r.class ≡ k)) (sym (get_or-map (filter (is_elsewhere arena)) desk.cached k [])) (All-filter (is_elsewhere arena) (λ (r : Held). r.class ≡ k) (cached_in desk.cached k) (is.classed k));
   };
@@ -96,7 +97,7 @@ gave_parts desk all arena addrs is e = by desk.hand refl e
               let here : is_in_arena arena r ≡ true = eq-eqb r.arena arena home in
               subst (Parts desk (record desk { hand = None })) (ap (λ v. cond v (r ∷ []) []) (sym here)) (record {
                 less = λ f. let had : of_hand f desk.hand ≡ f r = ap (of_hand f) h in omega (arith, had, sum_by-cons f r []);
-                shaped = record { keyed = is.keyed; lists = is.lists; classed = is.classed };
+                shaped = record { keyed = is.keyed; lists = is.lists; classed = is.classed; places = is.places };
                 arena = refl;
               })
         ] refl e

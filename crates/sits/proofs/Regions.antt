@@ -1,5 +1,5 @@
 -- How the regions that a client holds in an arena come, go and change hands.
-use Rattle.sits.proofs.Words.{[], ◌≡◌, ◌≢◌, ℕ, ◌+◌, ◌==◌, ◌&&◌, Bool, true, not, cond, List, ◌∷◌, None, map, refl, sym, ◌∙◌, ap, arith, nat_lt, filter, count_by, list_any, position_or_len, sum_by, nat_tests, sum_by-cons, sum_by-insert, Region, is_held_at, held_anew, inserted, is_held_by, landing, region_of, is_given_back, staying, eqb_itself, ones, Held, held_region, is_region, is_region_in, ◌-◌, ◌*◌, ◌/◌, ◌^◌, ◌<◌, ◌≤◌, false, All, Some, suc, zero, find, min, eqb-true, All-weaker, regions_at, size_at, pages_bounds, size_bounds, slab_filled, is_published_at, holders, covers, homes, is_published, sharers, all_sum_le, find_passes, nothing_sum, only_one, sum_add, both_true, covered, homes-le-holders, Space, Part, Sound, pages_at, ◌++◌, Look, CutDone, GrowDone, CommitDone, Land, PutLook, MergeDone, Advance, PurgeTake, LazyDone, Offer, OfferDone, DecommitDone, ForcedDone, DestroyTake, Set, with_client, after_set, step_of, Op, Setting, Unbind, DirtyMs, Bind, is_in}
+use Rattle.sits.proofs.Words.{[], ◌≡◌, ◌≢◌, ℕ, ◌+◌, ◌==◌, ◌&&◌, Bool, true, not, cond, List, ◌∷◌, None, map, refl, sym, ◌∙◌, ap, arith, nat_lt, filter, count_by, list_any, position_or_len, sum_by, nat_tests, sum_by-cons, sum_by-insert, Region, is_held_at, held_anew, inserted, is_held_by, landing, region_of, is_given_back, staying, eqb_itself, ones, Held, held_region, is_region, is_region_in, ◌-◌, ◌*◌, ◌/◌, ◌^◌, ◌<◌, ◌≤◌, false, All, Some, suc, zero, find, min, eqb-true, All-weaker, regions_at, size_at, pages_bounds, size_bounds, slab_filled, is_published_at, holders, covers, homes, is_published, sharers, all_sum_le, find_passes, nothing_sum, only_one, sum_add, both_true, covered, homes-le-holders, Space, Part, Sound, pages_at, ◌++◌, Look, CutDone, GrowDone, CommitDone, Land, PutLook, MergeDone, Advance, PurgeTake, LazyDone, Offer, OfferDone, DecommitDone, ForcedDone, DestroyTake, Set, with_client, after_set, step_of, Op, Setting, Unbind, DirtyMs, Bind, is_in, Widen, Trim}
 
 -- 1 where a region of the arena is at the address and of the class
 abbrev pub one_in : ℕ → ℕ → ℕ → Held → ℕ
@@ -266,6 +266,8 @@ IsSteady (OfferDone heard found) = Unit {0}
 IsSteady (DecommitDone heard) = Unit {0}
 IsSteady (ForcedDone heard) = Unit {0}
 IsSteady DestroyTake = Unit {0}
+IsSteady (Widen addr pages) = Unit {0}
+IsSteady (Trim addr class) = Unit {0}
 IsSteady (Set setting) = Unit {0}
 IsSteady op = ⊥
 

@@ -1,13 +1,20 @@
 -- Where a call came, its client is as it has to be.
-use Rattle.sits.proofs.Words.{[], ◌≡◌, ℕ, ◌+◌, ◌-◌, ◌/◌, ◌<◌, ◌≤◌, ◌==◌, ◌||◌, ◌++◌, Bool, true, false, cond, List, ◌∷◌, Option, None, Some, length, map, take, refl, sym, ◌∙◌, ap, subst, arith, min, nat_lt, count_by, flat_map, list_all, list_any, sum_by, ltb-true, nat_tests, length-take, sum_by-append, sum_by-cons, SpaceRegion, has_page, counted_any, map_terms, ones, held_again, holding, kept, older_count, Request, Cache, Finished, Answered, NoArena, Giving, Point, Turns, Next, Go, Over, More, Gone, Ends, Nowhere, Stage, Mine, mine, Held, DeskFacts, BatchFacts, batch_of, going, going_with, is_cacheable, slots_at, cached_in, desk_ended, flushes, held_region, switched, GivesBack, Knows, is_held, is_served, KnowsNext, Ready, flying, needed_at, batch_goes, closed, moved, settle, batches-know, both_true, AreArenas, no_record, record_at, room_in, IsIdle, WaitsNext, mine_in, Record, Comes, HasRegions, IsAtRest, in_hand, is_region, is_region_in, regions_of_desk, cases_lt, inl, inr, Sound, Sits, Suits}
+use Rattle.sits.proofs.Words.{[], ◌≡◌, ℕ, ◌+◌, ◌-◌, ◌/◌, ◌<◌, ◌≤◌, ◌==◌, ◌||◌, ◌++◌, Bool, true, false, cond, List, ◌∷◌, Option, None, Some, length, map, take, refl, sym, ◌∙◌, ap, subst, arith, min, nat_lt, count_by, flat_map, list_all, list_any, sum_by, ltb-true, nat_tests, length-take, sum_by-append, sum_by-cons, SpaceRegion, has_page, counted_any, map_terms, ones, held_again, holding, kept, older_count, Request, Cache, Finished, Answered, NoArena, Giving, Point, Turns, Next, Go, Over, More, Gone, Ends, Nowhere, Stage, Mine, mine, Held, DeskFacts, BatchFacts, batch_of, going, going_with, is_cacheable, slots_at, cached_in, desk_ended, flushes, held_region, switched, GivesBack, Knows, is_held, is_served, KnowsNext, Ready, flying, needed_at, batch_goes, closed, moved, settle, batches-know, both_true, AreArenas, no_record, record_at, room_in, IsIdle, WaitsNext, mine_in, Record, Comes, HasRegions, IsAtRest, in_hand, is_region, is_region_in, regions_of_desk, cases_lt, inl, inr, Sound, Sits, Suits, ◌&&◌, gain_held, region_ended, is_held_of, gives, all_goes, Move, desk_moved, move_stage, get, share, stage, hit, hitting, wish_for, most_regions, Filling, Looking, HasSlots, lt-ltb, cond_both, moves-know, desk_led}
 use Rattle.sits.specs.Words.{Region, Ok}
+use Rattle.call_plan.proofs.Lists.{any_weaker}
 use Rattle.sits.proofs.Counting.{shifts, through}
 use Rattle.sits.proofs.Indexes.{at_or_else, past}
-use Rattle.sits.proofs.Hands.{Count, Hands, Single, had_counts, hand_alone, hands_held, no_more}
-use Rattle.sits.proofs.Having.{CanKeep, Settles, Shaped, hold_settles, hold_shaped, keep_settles, of_hand, over}
+use Rattle.sits.proofs.Hands.{Count, Hands, Single, gained_alone, had_counts, hand_alone, hands_held, no_more}
+use Rattle.sits.proofs.Having.{CanKeep, Settles, Shaped, gain_gains, gain_settles, hit_is, miss_is, hold_settles, hold_shaped, keep_settles, of_hand, over}
 use Rattle.sits.proofs.Parting.{no_batch}
 use Rattle.sits.proofs.Regions.{held_page, most_one, one_in, two_classes}
-use Rattle.sits.proofs.Suiting.{Suited, SuitsAnswer}
+use Rattle.call_plan.specs.Clients.{swapped_back}
+use Rattle.call_plan.specs.Desks.{desk_closed, is_done}
+use Rattle.cache_set.specs.Sets.{explicit}
+use Rattle.thread_cache.specs.Caches.{is_in_arena}
+use Rattle.sits.specs.Sitting.{HasRegions}
+use Rattle.sits.proofs.Swapping.{back_own, back_settles}
+use Rattle.sits.proofs.Suiting.{Suited, SuitsAnswer, SuitsRegion, fewer_slots}
 
 -- ---- what a client holds in the arenas
 
@@ -57,9 +64,9 @@ regions_over test desk =
     let f : Held → ℕ = λ r. ones (test r) in
     let cached : List Held = flat_map (λ list. list) desk.cached in
     let held : List Held = map (λ (e : ℕ × Held). e.1) desk.held in
-    let all : count_by test (regions_of_desk desk) ≡ sum_by f (held ++ cached) + sum_by f (in_hand desk.hand) = sum_by-append f (held ++ cached) (in_hand desk.hand) in
-    let last : sum_by f (in_hand desk.hand) ≡ of_hand f desk.hand = hand_over desk.hand in
-    omega (arith, all, last, sum_by-append f held cached, map_terms f (λ (e : ℕ × Held). e.1) desk.held)
+    let hand : sum_by f (in_hand desk.hand) ≡ of_hand f desk.hand = hand_over desk.hand in
+    let gained : sum_by f (in_hand desk.gained) ≡ of_hand f desk.gained = hand_over desk.gained in
+    omega (arith, hand, gained, sum_by-append f (held ++ cached ++ in_hand desk.hand ++ in_hand desk.gained) (explicit desk.set), sum_by-append f (held ++ cached ++ in_hand desk.hand) (in_hand desk.gained), sum_by-append f (held ++ cached) (in_hand desk.hand), sum_by-append f held cached, map_terms f (λ (e : ℕ × Held). e.1) desk.held)
   where
     hand_over : (hand : Option Held) → count_by test (in_hand hand) ≡ of_hand (λ r. ones (test r)) hand
     hand_over None = refl
@@ -78,6 +85,7 @@ owns_has records c desk owns = record {
   keyed = owns.shaped.keyed;
   lists = owns.shaped.lists;
   classed = owns.shaped.classed;
+  places = owns.shaped.places;
   arena = owns.low;
   bound = owns.bound;
 }
@@ -85,7 +93,7 @@ owns_has records c desk owns = record {
 pub has_owns : {together : Bool} (records : List Record) (c : ℕ) (desk : DeskFacts) → HasRegions together records c desk → Owns together records c [] desk
 has_owns records c desk has = record {
   hands = λ i a k. shifts (has.hands i a k) (omega (arith, regions_over (is_region_in i a k) desk));
-  shaped = record { keyed = has.keyed; lists = has.lists; classed = has.classed };
+  shaped = record { keyed = has.keyed; lists = has.lists; classed = has.classed; places = has.places };
   low = has.arena;
   bound = has.bound;
 }
@@ -105,48 +113,94 @@ settles_owns records c desk after owns same = record {
 pub again_settles : {together : Bool} (records : List Record) (c : ℕ) (desk : DeskFacts) → AreArenas together records → Owns together records c [] desk → Settles together desk (held_again desk)
 again_settles {together} records c desk is owns = hold_settles together desk owns.shaped (λ r e. hand_alone (count_in records c) desk r (single_in records c is) owns.hands owns.shaped e)
 
-pub at_rest : {together : Bool} (records : List Record) (c : ℕ) (desk after : DeskFacts) → Owns together records c [] desk → IsIdle records c → Settles together desk after → IsAtRest together records c after
-at_rest records c desk after owns idle same = record { has = owns_has records c after (settles_owns records c desk after owns same); idle = idle; empty = same.hand }
+-- What is so of a client whose call has ended, but that its own cache may not be in its place.
+record IsResting (together : Bool) (records : List Record) (c : ℕ) (desk : DeskFacts) : Type 0 where
+  pub has : HasRegions together records c desk
+  pub idle : IsIdle records c
+  pub empty : desk.hand ≡ None
+  pub gained : desk.gained ≡ None
+
+at_rest : {together : Bool} (records : List Record) (c : ℕ) (desk after : DeskFacts) → AreArenas together records → Owns together records c [] desk → IsIdle records c → Settles together desk after →
+    IsResting together records c (gain_held after)
+at_rest {together} records c desk after is owns idle same =
+    let mine = settles_owns records c desk after owns same in
+    let gained = gain_settles together after mine.shaped same.hand (λ r e. gained_alone (count_in records c) after r (single_in records c is) mine.hands mine.shaped e) in record {
+      has = owns_has records c (gain_held after) (settles_owns records c after (gain_held after) mine gained.0);
+      idle = idle;
+      empty = gained.0.hand;
+      gained = gained.1;
+    }
 
 -- a cache that was to be on or off is so
-switch_settles : {together : Bool} (request : Request) (desk after : DeskFacts) → Settles together desk after → Settles together desk (switched request after)
-switch_settles (Cache on) desk after is = record { same = is.same; shaped = record { keyed = is.shaped.keyed; lists = is.shaped.lists; classed = is.shaped.classed }; arena = is.arena; hand = is.hand }
-switch_settles request desk after is = is
+switch_rests : {together : Bool} (records : List Record) (c : ℕ) (request : Request) (desk : DeskFacts) → IsResting together records c desk → IsResting together records c (switched request desk)
+switch_rests records c (Cache on) desk is = record {
+  has = record { hands = is.has.hands; keyed = is.has.keyed; lists = is.has.lists; classed = is.has.classed; places = is.has.places; arena = is.has.arena; bound = is.has.bound };
+  idle = is.idle;
+  empty = is.empty;
+  gained = is.gained;
+}
+switch_rests records c request desk is = is
 
-pub ends_rest : {together : Bool} (records : List Record) (c arena : ℕ) (request : Request) (desk : DeskFacts) (extra : List Held) (answer : Answered) → AreArenas together records → Owns together records c extra desk → IsIdle records c →
-    SuitsAnswer extra desk arena answer → IsAtRest together records c (desk_ended request arena answer desk)
-ends_rest {together} records c arena request desk extra (Ok (Region addr class)) is owns idle suits =
-    let r : Held = held_region arena class addr in
+-- a region that came is held, or the one gained is
+region_rests : {together : Bool} (records : List Record) (c : ℕ) (desk : DeskFacts) (extra : List Held) (region : Held) (gained : Option Held) → desk.gained ≡ gained → AreArenas together records → Owns together records c extra desk → IsIdle records c →
+    SuitsRegion gained extra desk region → IsResting together records c (region_ended gained region desk)
+region_rests {together} records c desk extra r None e is owns idle suits =
     let held = hands_held together (count_in records c) r desk (single_in records c is) (subst (λ extra. Hands together (count_in records c) extra desk) suits.0 owns.hands) owns.shaped in record {
       has = owns_has records c (holding r desk) (record { hands = held; shaped = hold_shaped r desk owns.shaped; low = owns.low; bound = owns.bound });
       idle = idle;
       empty = suits.1;
+      gained = e;
     }
-ends_rest {together} records c arena request desk extra (Ok Finished) is owns idle suits =
+region_rests {together} records c desk extra r (Some gained) e is owns idle suits =
     let mine : Owns together records c [] desk = subst (λ extra. Owns together records c extra desk) suits.0 owns in
-    at_rest records c desk (switched request (kept desk)) mine idle (switch_settles request desk (kept desk) (keep_settles together desk mine.shaped suits.1))
-ends_rest {together} records c arena request desk extra (Ok given) is owns idle suits =
+    at_rest records c desk (kept desk) is mine idle (keep_settles together desk mine.shaped suits.1)
+
+ended_rests : {together : Bool} (records : List Record) (c arena : ℕ) (request : Request) (desk : DeskFacts) (extra : List Held) (answer : Answered) → AreArenas together records → Owns together records c extra desk → IsIdle records c →
+    SuitsAnswer extra desk arena answer → IsResting together records c (desk_ended request arena answer desk)
+ended_rests {together} records c arena request desk extra (Ok (Region addr class)) is owns idle suits =
+    region_rests records c desk extra (held_region arena class addr) desk.gained refl is owns idle suits
+ended_rests {together} records c arena request desk extra (Ok Finished) is owns idle suits =
     let mine : Owns together records c [] desk = subst (λ extra. Owns together records c extra desk) suits.0 owns in
-    at_rest records c desk (held_again desk) mine idle (again_settles records c desk is mine)
-ends_rest {together} records c arena request desk extra answer is owns idle suits =
+    switch_rests records c request (gain_held (kept desk)) (at_rest records c desk (kept desk) is mine idle (keep_settles together desk mine.shaped suits.1))
+ended_rests {together} records c arena request desk extra (Ok given) is owns idle suits =
+    let mine : Owns together records c [] desk = subst (λ extra. Owns together records c extra desk) suits.0 owns in
+    at_rest records c desk (held_again desk) is mine idle (again_settles records c desk is mine)
+ended_rests {together} records c arena request desk extra answer is owns idle suits =
     let mine : Owns together records c [] desk = subst (λ extra. Owns together records c extra desk) suits owns in
-    at_rest records c desk (held_again desk) mine idle (again_settles records c desk is mine)
+    at_rest records c desk (held_again desk) is mine idle (again_settles records c desk is mine)
+
+-- once a call has ended its client's own cache is in its place, and the client rests
+pub ends_rest : {together : Bool} (records : List Record) (c arena : ℕ) (request : Request) (desk : DeskFacts) (extra : List Held) (answer : Answered) → AreArenas together records → Owns together records c extra desk → IsIdle records c →
+    SuitsAnswer extra desk arena answer → IsAtRest together records c (desk_closed request arena (Ends answer) desk)
+ends_rest {together} records c arena request desk extra answer is owns idle suits =
+    let ended : DeskFacts = desk_ended request arena answer desk in
+    let rests = ended_rests records c arena request desk extra answer is owns idle suits in
+    let mine = has_owns records c ended rests.has in
+    let back = back_settles together (is_done answer) ended mine.shaped rests.empty in
+    let own = back_own (is_done answer) ended in record {
+      has = owns_has records c (swapped_back (is_done answer) ended) (settles_owns records c ended (swapped_back (is_done answer) ended) mine back);
+      idle = idle;
+      empty = back.hand;
+      gained = own.0 ∙ rests.gained;
+      own = own.1;
+    }
 
 -- ---- what is known where regions go back
 
 pub any_region : (a k : ℕ) (rs : List SpaceRegion) → 0 < count_by (is_region a k) rs → list_any (λ (r : SpaceRegion). r.addr == a) rs ≡ true
-any_region a k [] some = absurd (omega (arith, some))
-any_region a k (r ∷ rs) some =
-    let sum = sum_by-cons (λ (q : SpaceRegion). ones (is_region a k q)) r rs in grind (arith, any_region a k rs)
+any_region a k rs some = any_weaker (is_region a k) (λ r. r.addr == a) rs (λ r h. (both_true (r.addr == a) _ h).0) (counted_any (is_region a k) rs some)
 
 pub is_ready : {together : Bool} (records : List Record) (c : ℕ) (desk : DeskFacts) (at : Stage) → Owns together records c [] desk → IsIdle records c → Ready (mine_in records c at.arena) desk at
 is_ready records c desk at owns idle = record {
   idle = idle at.arena;
   served = λ same. bound_serves (mine_in records c at.arena) (subst (λ n. (mine_in records c n).bound ≡ true) (sym same) owns.bound);
   holds = λ region has same.
-      subst (λ n. is_held (mine_in records c n) region.addr ≡ true) (sym same)
-      (any_region region.addr region.class (mine_in records c region.arena).regions (had_counts (count_in records c) desk region owns.hands has owns.shaped));
-  cached = no_more at.arena (flat_map (λ list. list) desk.cached) (mine_in records c at.arena).regions (λ a k. let had = (owns.hands at.arena a k).within in omega (arith, had));
+      subst (λ n. is_held_of (mine_in records c n) region.addr region.class ≡ true) (sym same)
+      (counted_any (is_region region.addr region.class) (mine_in records c region.arena).regions (had_counts (count_in records c) desk region owns.hands has owns.shaped));
+  cached =
+      let own : List Held = flat_map (λ list. list) desk.cached in
+      let all = no_more at.arena (own ++ explicit desk.set) (mine_in records c at.arena).regions (λ a k. let had = (owns.hands at.arena a k).within in omega (arith, had, sum_by-append (one_in at.arena a k) own (explicit desk.set))) in
+      omega (arith, all, sum_by-append (λ r. ones (is_in_arena at.arena r)) own (explicit desk.set));
 }
   where
     bound_serves : (m : Mine) → m.bound ≡ true → is_served m ≡ true
@@ -203,14 +257,80 @@ first_sits records c arena point request desk low owns idle knows suits none = r
   suits = suits;
 }
 
+-- the region that a request gives is the one gained
+gives_gained : (request : Request) (desk : DeskFacts) (region : Held) → gives request desk ≡ Some region → desk.gained ≡ Some region
+gives_gained request desk region e = grind arith
+
 pub comes_more : {together : Bool} (records : List Record) (c arena : ℕ) (request : Request) (desk : DeskFacts) → AreArenas together records → Owns together records c [] desk → IsIdle records c →
-    Comes together records c (moved request desk arena More)
+    Comes together records c (closed request desk (all_goes request desk arena))
 comes_more {together} records c arena request desk is owns idle =
-    by (batch_of (going (flushes request) desk)) refl (batches-know (mine_in records c (settle request desk arena More).arena) request desk arena (is_ready records c desk (settle request desk arena More) owns idle))
+    by (gives request desk) (batch_of (going (flushes request) desk)) refl refl (batches-know (mine_in records c (settle request desk arena More).arena) request desk arena (is_ready records c desk (settle request desk arena More) owns idle))
   where
-    by : (batch : Option BatchFacts) → batch_of (going (flushes request) desk) ≡ batch → KnowsNext (mine_in records c (batch_goes arena batch).arena) (batch_goes arena batch).next → Comes together records c (closed request desk (batch_goes arena batch))
-    by None e knows = (tt, ends_rest records c arena request desk [] (Ok Finished) is owns idle (refl, no_more_keeps desk (flushes request) e))
-    by (Some batch) e knows = (tt, (refl, first_sits records c batch.arena (Turns (Giving batch.addrs)) request desk (gives_low records c batch.arena batch.addrs is knows) owns idle knows e refl))
+    by : (gained : Option Held) (batch : Option BatchFacts) → gives request desk ≡ gained → batch_of (going (flushes request) desk) ≡ batch → KnowsNext (mine_in records c (batch_goes arena gained batch).arena) (batch_goes arena gained batch).next →
+        Comes together records c (closed request desk (batch_goes arena gained batch))
+    by None None g e knows = (tt, ends_rest records c arena request desk [] (Ok Finished) is owns idle (refl, no_more_keeps desk (flushes request) e))
+    by (Some region) None g e knows =
+        let keeps = no_more_keeps desk (flushes request) e in (
+          tt,
+          ends_rest records c region.arena request desk [] (Ok (Region region.addr region.class)) is owns idle
+              (subst (λ o. SuitsRegion o [] desk (held_region region.arena region.class region.addr)) (sym (gives_gained request desk region g)) (refl, keeps)),
+        )
+    by gained (Some batch) g e knows = (tt, (refl, first_sits records c batch.arena (Turns (Giving batch.addrs)) request desk (gives_low records c batch.arena batch.addrs is knows) owns idle knows e refl))
+
+-- ---- where another region takes the place of the one in hand
+
+-- where none of a small class was hit in the cache, all that are got but one can be cached
+pub share_slots : (desk : DeskFacts) (class : ℕ) → (nat_lt class 36 ≡ true → hit class desk ≡ None) → HasSlots desk class (share class desk)
+share_slots desk class missed many =
+    elim (desk.caches && nat_lt class 36) as (λ v. (desk.caches && nat_lt class 36) ≡ v → 1 < cond v (slots_at class / 2) 1 → (class < 41) × (length (cached_in desk.cached class) + cond v (slots_at class / 2) 1 ≤ slots_at class + 1)) [
+      | true ↦ λ e some.
+          let both = both_true desk.caches (nat_lt class 36) e in
+          let small : class < 36 = ltb-true class 36 both.1 in
+          let cacheable : is_cacheable class desk ≡ true = ap (λ v. v && nat_lt class 41) both.0 ∙ lt-ltb class 41 (omega (arith, small)) in
+          let none : length (cached_in desk.cached class) ≡ 0 = ap length (miss_is class desk cacheable (missed both.1)) in
+          (omega (arith, small), omega (arith, none))
+      | false ↦ λ e some. absurd (omega (arith, some))
+    ] refl many
+
+-- regions of a class are got, of which one takes the place of the one in hand
+get_comes : {together : Bool} (records : List Record) (c class : ℕ) (request : Request) (desk : DeskFacts) → Owns together records c [] desk → IsIdle records c → desk.gained ≡ None → hit class desk ≡ None →
+    KnowsNext (mine_in records c desk.arena) (get true class 1 (share class desk)) → Comes together records c (closed request desk (stage desk.arena (get true class 1 (share class desk))))
+get_comes {together} records c class request desk owns idle none missed knows =
+    let count : ℕ = share class desk in
+    let least : ℕ = min count (most_regions class) in
+    let fewer : min count (most_regions class) ≤ count = omega arith in
+    let slots = share_slots desk class (λ small. missed) in
+    cond_both (nat_lt class 36) _ _ (λ next. KnowsNext (mine_in records c desk.arena) next → Comes together records c (closed request desk (stage desk.arena next)))
+    (λ e knows. (tt, (refl, first_sits records c desk.arena (Turns (Filling (wish_for true class 1 least) count)) request desk owns.low owns idle knows (record { empty = λ no. absurd (cc); none = none; own = refl; slots = slots }, fewer) refl)))
+    (λ e knows. (tt, (refl, first_sits records c desk.arena (Turns (Looking (wish_for true class 1 least))) request desk owns.low owns idle knows (record { empty = λ no. absurd (cc); none = none; own = refl; slots = fewer_slots desk class least count fewer slots }) refl))) knows
+
+-- a cached region of a class is gained
+hit_owns : {together : Bool} (records : List Record) (c class : ℕ) (desk : DeskFacts) (r : Held) → Owns together records c [] desk → desk.gained ≡ None → hit class desk ≡ Some r → Owns together records c [] (desk_moved class (Some r) desk)
+hit_owns {together} records c class desk r owns none found =
+    let is_hit = hit_is class desk r owns.shaped found in
+    let own : Held = record r { class = class } in
+    let same : own ≡ r = ap (λ k. held_region r.arena k r.addr) (sym is_hit.1) in
+    let gains = gain_gains own (hitting class desk) is_hit.3 none in record {
+      hands = λ i a k.
+          let one : one_in i a k own ≡ one_in i a k r = ap (one_in i a k) same in
+          shifts (owns.hands i a k) (omega (arith, one, is_hit.2 (one_in i a k), gains.more (one_in i a k)));
+      shaped = gains.shaped;
+      low = omega (arith, owns.low, gains.arena);
+      bound = subst (λ n. (mine_in records c n).bound ≡ true) (sym gains.arena) owns.bound;
+    }
+
+pub comes_move : {together : Bool} (records : List Record) (c arena class : ℕ) (request : Request) (desk : DeskFacts) → AreArenas together records → Owns together records c [] desk → IsIdle records c → desk.gained ≡ None → class < 121 →
+    Comes together records c (moved request desk arena (Move class))
+comes_move {together} records c arena class request desk is owns idle none below = by (hit class desk) refl
+  where
+    by : (found : Option Held) → hit class desk ≡ found → Comes together records c (closed request (desk_moved class found desk) (move_stage request arena class found desk))
+    by None e =
+        get_comes records c class request desk owns idle none e
+        (subst (λ o. KnowsNext (mine_in records c (move_stage request arena class o desk).arena) (move_stage request arena class o desk).next) e
+        (moves-know (mine_in records c (settle request desk arena (Move class)).arena) request desk arena class below
+        (subst (λ o. Ready (mine_in records c (move_stage request arena class o desk).arena) (desk_moved class o desk) (move_stage request arena class o desk)) (sym e)
+        (is_ready records c desk (move_stage request arena class None desk) owns idle))))
+    by (Some r) e = comes_more records c arena request (desk_moved class (Some r) desk) is (hit_owns records c class desk r owns none e) idle
 
 pub comes_on : {together : Bool} (records : List Record) (c arena : ℕ) (request : Request) (desk : DeskFacts) (extra : List Held) (next : Next) → AreArenas together records → Owns together records c extra desk → WaitsNext records c arena next →
     Suited extra desk request arena next → Comes together records c (moved request desk arena next)
@@ -219,6 +339,8 @@ comes_on {together} records c arena request desk extra (Go point) is owns waits 
 comes_on {together} records c arena request desk extra (Over index point) is owns waits suits =
     let mine : Owns together records c [] desk = subst (λ extra. Owns together records c extra desk) suits.0 owns in
     (tt, (refl, first_sits records c index point request desk suits.1 mine waits.0 (waits.1 (mine_in records c index) (waits.0 index)) suits.2 suits.3))
+comes_on {together} records c arena request desk extra (Move class) is owns waits suits =
+    comes_move records c arena class request desk is (subst (λ extra. Owns together records c extra desk) suits.0 owns) waits.0 suits.1 waits.1
 comes_on {together} records c arena request desk extra More is owns waits suits = comes_more records c arena request desk is (subst (λ extra. Owns together records c extra desk) suits owns) waits
 comes_on records c arena request desk extra Gone is owns waits suits = (tt, ends_rest records c arena request desk extra (NoArena arena) is owns waits suits)
 comes_on records c arena request desk extra (Ends answer) is owns waits suits = (tt, ends_rest records c arena request desk extra answer is owns waits suits)

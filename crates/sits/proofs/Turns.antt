@@ -1,10 +1,12 @@
 -- The turn that a call wants leads on, with all that its client has.
-use Rattle.sits.proofs.Words.{[], rules, ◌≡◌, ◌≢◌, ◌⊎◌, inl, inr, ℕ, ◌<◌, true, false, cond_both, List, ◌∷◌, Option, None, Some, slice_set, refl, sym, ◌∙◌, ap, subst, arith, count_by, Set, is_live, stands, step_of, Stepped, gave, Request, Item, Replied, Told, Starved, NoMemory, Change, Stops, Visits, Leaves, TurnPoint, Filling, Landing, Giving, Changing, Making, Owning, AskPoint, Skipping, Point, Turns, Asks, Next, Go, Op, Reply, Landed, NextFlight, Regions, Owned, Setting, Unbind, Bind, MakeLive, Space, Mine, mine, AskFacts, Held, DeskFacts, freeing, CallFacts, desk_fed, desk_turned, landed_behind, held_region, Idle, KnowsTurn, is_of_arena, after, moved, stage, step_next, WantTurn, WantAsk, done_at, is_marked, op_at, starved, step, want, record_after, record_at, reply_in, WaitsNext, mine_in, Record, AsksSit, Comes, HasRegions, IsSeated, Sits, SitsAt, StarvesSit, Suits, SuitsChange, SuitsTurn, TurnsSit, is_region, never_starves, is_in, Bool, with_found, AreApart, AreArenas, after_found, CanTake, OwnSits}
+use Rattle.sits.proofs.Words.{[], rules, ◌≡◌, ◌≢◌, ◌⊎◌, inl, inr, ℕ, ◌<◌, true, false, cond_both, List, ◌∷◌, Option, None, Some, slice_set, refl, sym, ◌∙◌, ap, subst, arith, count_by, Set, is_live, stands, step_of, Stepped, gave, Request, Item, Replied, Told, Starved, NoMemory, Change, Stops, Visits, Leaves, TurnPoint, Filling, Landing, Giving, Changing, Making, Owning, AskPoint, Skipping, Point, Turns, Asks, Next, Go, Op, Reply, Landed, NextFlight, Regions, Owned, Setting, Unbind, Bind, MakeLive, Space, Mine, mine, AskFacts, Held, DeskFacts, freeing, CallFacts, desk_fed, desk_turned, landed_behind, held_region, Idle, KnowsTurn, is_of_arena, after, moved, stage, step_next, WantTurn, WantAsk, done_at, is_marked, op_at, starved, step, want, record_after, record_at, reply_in, WaitsNext, mine_in, Record, AsksSit, Comes, HasRegions, IsSeated, Sits, SitsAt, StarvesSit, Suits, SuitsChange, SuitsTurn, TurnsSit, is_region, never_starves, is_in, Bool, with_found, AreApart, AreArenas, after_found, CanTake, OwnSits, Cutting, Joining, Resize, KnowsAsk, Heard, SuitsAsk, SuitsResize, desk_told, ask_at, reclassing, gaining, freed_with, empty_handed, taking_place, sharing, Wish}
+use Rattle.space_model.specs.Resizing.{after_join, after_trim_done}
 use Rattle.sits.proofs.Carrying.{carries}
+use Rattle.sits.proofs.Resizes.{Resized, cut_resized, hands_reclass, join_resized}
 use Rattle.sits.proofs.Clients.{asks-lead_on, found_is, idle_still, turns-lead_on, waits_still}
 use Rattle.sits.proofs.Counting.{shifts}
 use Rattle.sits.proofs.Indexes.{at_or_else, elsewhere_is, there_is}
-use Rattle.sits.proofs.Having.{cache_arena, share_stays}
+use Rattle.sits.proofs.Having.{cache_arena, reclass_arena, reclass_shaped, share_stays}
 use Rattle.sits.proofs.Regions.{BindsNobody, IsSteady, added_in, bind_keeps, count_at, op_bound, op_regions, set_bound}
 use Rattle.sits.proofs.Settling.{Owns, comes_on, count_in, ends_rest, has_owns, single_in}
 use Rattle.sits.proofs.Suiting.{Suited, came, told_suits, turned_suits}
@@ -17,10 +19,21 @@ gave_arena arena desk = grind arith
 free_arena : (r : Held) (desk : DeskFacts) → (freeing r desk).arena ≡ desk.arena
 free_arena r desk = grind (arith, cache_arena)
 
+gain_arena : (r : Held) (desk : DeskFacts) → (gaining r desk).arena ≡ desk.arena
+gain_arena r desk = by desk.hand
+  where
+    by : (hand : Option Held) → (freed_with hand (record desk { gained = Some r })).arena ≡ desk.arena
+    by None = refl
+    by (Some old) = free_arena old (empty_handed (record desk { gained = Some r }))
+
+place_arena : (wish : Wish) (r : Held) (desk : DeskFacts) → (taking_place wish r desk).arena ≡ desk.arena
+place_arena wish r desk = grind (arith, gain_arena)
+
 -- the client allocates from the same arena after a turn that changes no setting
 pub turned_arena : (desk : DeskFacts) (arena : ℕ) (point : TurnPoint) (reply : Reply) → ((setting : Setting) (change : Change) → point ≡ Changing setting change → ⊥) → (desk_turned desk arena point reply).arena ≡ desk.arena
-turned_arena desk arena (Filling wish count) (Regions (addr ∷ others)) else = (share_stays arena wish.class others desk).1
-turned_arena desk arena (Landing wish span) (Landed first count) else = (share_stays arena wish.class (landed_behind first wish.class count) desk).1
+turned_arena desk arena (Filling wish count) (Regions (addr ∷ others)) else = place_arena wish (held_region arena wish.class addr) (sharing arena wish.class others desk) ∙ (share_stays arena wish.class others desk).1
+turned_arena desk arena (Landing wish span) (Landed first count) else =
+    place_arena wish (held_region arena wish.class first) (sharing arena wish.class (landed_behind first wish.class count) desk) ∙ (share_stays arena wish.class (landed_behind first wish.class count) desk).1
 turned_arena desk arena (Giving addrs) (NextFlight next) else = gave_arena arena desk
 turned_arena desk arena (Changing setting change) reply else = absurd (else setting change refl)
 turned_arena desk arena (Owning addr true past) (Owned class) else = free_arena (held_region arena class addr) desk
@@ -63,9 +76,21 @@ settled_of : (found : Option ℕ) (point : TurnPoint) → with_found found (op_a
 settled_of found point = grind arith
 
 -- an answer that is taken in moves no region, and binds nobody
-steady_done : (found : Option ℕ) (point : AskPoint) (asked : AskFacts) → IsSteady (with_found found (done_at point asked)) × BindsNobody (with_found found (done_at point asked))
-steady_done found (Skipping wish span b skip) asked = (tt, tt)
-steady_done found point asked = (tt, tt)
+-- the answer is to no split or merge of a region's extent
+abbrev IsSteadyAsk : AskPoint → Type 0
+IsSteadyAsk (Cutting resize) = ⊥
+IsSteadyAsk (Joining resize span) = ⊥
+IsSteadyAsk point = Unit {0}
+
+steady_done : (found : Option ℕ) (point : AskPoint) (asked : AskFacts) → IsSteadyAsk point → IsSteady (with_found found (done_at point asked))
+steady_done found (Skipping wish span b skip) asked is = tt
+steady_done found (Cutting resize) asked is = absurd is
+steady_done found (Joining resize span) asked is = absurd is
+steady_done found point asked is = tt
+
+binds_nobody : (found : Option ℕ) (point : AskPoint) (asked : AskFacts) → BindsNobody (with_found found (done_at point asked))
+binds_nobody found (Skipping wish span b skip) asked = tt
+binds_nobody found point asked = tt
 
 module _ {together : Bool} (records : List Record) (c arena : ℕ) (desk : DeskFacts) (request : Request) (asked : Option AskFacts) (is : AreArenas together records) (there : arena < 32) (owns : Owns together records c [] desk) where
   abbrev pub s : Space
@@ -127,6 +152,37 @@ module _ {together : Bool} (records : List Record) (c arena : ℕ) (desk : DeskF
         bound = now.1;
       }
 
+  -- where a region of the client's may have taken another class
+  pub resized_owns : (op : Op) (resize : Resize) (after : DeskFacts) → Resized c s desk resize (step_of s c op).after after → (step_of s c op).after.bound ≡ s.bound → SuitsResize desk arena resize →
+      Owns together (all_after op) c [] after
+  resized_owns op resize after (inl same) bound suits = subst (λ d. Owns together (all_after op) c [] d) (sym same.1) (steady_owns op same.0 bound)
+  resized_owns op resize after (inr (class, large, regions, same)) bound suits =
+      let now : DeskFacts = reclassing resize.class desk in
+      let still = still_bound op now (inl (reclass_arena desk resize.class, λ home. ap (is_in c) bound ∙ was_bound home)) in
+      subst (λ d. Owns together (all_after op) c [] d) (sym same) (record {
+        hands = hands_reclass (count_in records c) (count_in (all_after op) c) c arena s (step_of s c op).after desk resize class large (is.sound arena there) (single_in records c is) owns.hands
+            (λ a k. refl) (λ a k. count_here op a k) (λ i a k differ. count_else op i a k differ) regions suits;
+        shaped = reclass_shaped desk resize.class owns.shaped;
+        low = still.0;
+        bound = still.1;
+      })
+
+  -- the turn that takes an answer in leaves the client with what it has
+  pub told_owns : (found : Option ℕ) (point : AskPoint) (heard : AskFacts) → KnowsAsk (mine c s) point → Heard point (Some heard) → SuitsAsk desk arena point →
+      Owns together (all_after (with_found found (done_at point heard))) c [] (desk_told desk point (step_of s c (with_found found (done_at point heard))).reply)
+  told_owns found (Cutting resize) heard knows (ask, kind) suits =
+      let op : Op = done_at (Cutting resize) heard in
+      let at : step_of s c op ≡ after_trim_done s c resize.class (ask_at (Cutting resize)) heard.answer = ap (λ a. after_trim_done s c resize.class a heard.answer) ask in
+      resized_owns op resize _ (cut_resized c s desk resize heard.answer (is.sound arena there) knows.3.0 kind (step_of s c op) at) (op_bound s c op tt) suits
+  told_owns found (Joining resize span) heard knows (ask, kind) suits =
+      let op : Op = done_at (Joining resize span) heard in
+      let at : step_of s c op ≡ after_join s c resize.class (ask_at (Joining resize span)) heard.answer = ap (λ a. after_join s c resize.class a heard.answer) ask in
+      resized_owns op resize _ (join_resized c s desk resize span heard.answer (is.sound arena there) knows.0.0 knows.1 kind (step_of s c op) at) (op_bound s c op tt) suits
+  told_owns found (Skipping wish span b skip) heard knows so suits =
+      let op : Op = with_found found (done_at (Skipping wish span b skip) heard) in steady_owns op (op_regions s c op tt) (op_bound s c op tt)
+  told_owns found point heard knows so suits =
+      let op : Op = with_found found (done_at point heard) in steady_owns op (op_regions s c op (steady_done found point heard tt)) (op_bound s c op (binds_nobody found point heard))
+
 -- ---- the laws
 
 module _ (together : Bool) (records : List Record) (c : ℕ) (desk : DeskFacts) (call : CallFacts) (found : Option ℕ) (op : Op) (asked : Option AskFacts) (is : AreArenas together records) where
@@ -163,9 +219,10 @@ module _ (together : Bool) (records : List Record) (c : ℕ) (desk : DeskFacts) 
       can sits.waits.there waits (turned_suits desk call.request arena point reply sits.has.arena sits.suits)
   turn_at (Asks point (Some told_so)) sits wants can waits =
       let same : done_at point told_so ≡ op = cc in
-      let s : Space = (record_at records arena).space in
-      let steady = subst (λ (o : Op). IsSteady (with_found found o) × BindsNobody (with_found found o)) same (steady_done found point told_so) in
-      turned_from (Asks point (Some told_so)) [] (steady_owns records c arena desk call.request asked is sits.waits.there (has_owns records c desk sits.has) done (op_regions s c done steady.0) (op_bound s c done steady.1))
+      let is_op : done ≡ with_found found (done_at point told_so) = ap (with_found found) (sym same) in
+      let owns = told_owns records c arena desk call.request asked is sits.waits.there (has_owns records c desk sits.has) found point told_so sits.waits.knows.0 sits.waits.knows.1 sits.suits in
+      turned_from (Asks point (Some told_so)) []
+      (subst (λ (o : Op). Owns together (slice_set records arena (record_after (record_at records arena) c o asked)) c [] (desk_told desk point (step_of (record_at records arena).space c o).reply)) (sym is_op) owns)
       can sits.waits.there waits (told_suits desk call.request arena point told_so reply sits.suits)
   turn_at point sits wants can waits = absurd (cc)
 
@@ -227,6 +284,7 @@ own-sits together records records' c seat mines rooms sound = by seat.call sound
       keyed = has.keyed;
       lists = has.lists;
       classed = has.classed;
+      places = has.places;
       arena = has.arena;
       bound = ap (λ (m : Mine). m.bound) (mines desk.arena) ∙ has.bound;
     }
@@ -237,5 +295,5 @@ own-sits together records records' c seat mines rooms sound = by seat.call sound
     sits_still call next sits = sits
 
     by : (call : Option CallFacts) → IsSeated together records c seat.desk call → IsSeated together records' c seat.desk call
-    by None rests = record { has = has_still seat.desk rests.has; idle = idle_still records records' c mines rests.idle; empty = rests.empty }
+    by None rests = record { has = has_still seat.desk rests.has; idle = idle_still records records' c mines rests.idle; empty = rests.empty; gained = rests.gained; own = rests.own }
     by (Some call) sits = (sits.0, sits_still call call.stage.next sits.1)

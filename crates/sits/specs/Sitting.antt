@@ -1,7 +1,7 @@
 -- What is so of a client and its call among arenas: the regions that it has are such that it holds there, and its open call knows
 -- what it has to. Of the arenas nothing is seen here but what the client owns in each.
 use Rattle.std.specs.Prelude.{◌≡◌, ℕ, ◌<◌, ◌≤◌, ◌==◌, ◌&&◌, ◌++◌, ◌∷◌, [], Bool, true, List, Option, None, Some, All, count_by, length, map}
-use Rattle.sits.specs.Words.{CallFacts, DeskFacts, Go, Goes, Held, Moment, Next, Point, Record, Request, SpaceRegion, cached_in, flat_map}
+use Rattle.sits.specs.Words.{CallFacts, DeskFacts, Go, Goes, Held, Moment, Next, Point, Record, Request, SpaceRegion, Place, cached_in, explicit, flat_map}
 use Rattle.sits.specs.Clients.{IsIdle, Waits, mine_in}
 use Rattle.sits.specs.Seats.{Seat, seat_of}
 use Rattle.sits.specs.Suits.{Suits}
@@ -11,9 +11,10 @@ abbrev pub in_hand : Option Held → List Held
 in_hand None = []
 in_hand (Some region) = region ∷ []
 
--- the regions that a client has: those that it holds, those that it has cached, and the one in hand
+-- the regions that a client has: those that it holds, those that it has cached, the one in hand, the one gained, and those that its
+-- explicit caches have
 abbrev pub regions_of_desk : DeskFacts → List Held
-regions_of_desk desk = map (λ (e : ℕ × Held). e.1) desk.held ++ flat_map (λ list. list) desk.cached ++ in_hand desk.hand
+regions_of_desk desk = map (λ (e : ℕ × Held). e.1) desk.held ++ flat_map (λ list. list) desk.cached ++ in_hand desk.hand ++ in_hand desk.gained ++ explicit desk.set
 
 -- whether a region is at the address and of the class
 abbrev pub is_region : ℕ → ℕ → SpaceRegion → Bool
@@ -35,21 +36,29 @@ abbrev pub IsInHands : Bool → List Record → ℕ → DeskFacts → Type 0
 IsInHands together records c desk = (arena addr class : ℕ)
     → IsOf together (count_by (is_region_in arena addr class) (regions_of_desk desk)) (count_by (is_region addr class) (mine_in records c arena).regions)
 
+-- the regions of an explicit cache stand in the lists of their classes
+abbrev pub IsInClasses : Place → Type 0
+IsInClasses None = Unit {0}
+IsInClasses (Some lists) = (length lists ≡ 41) × ((class : ℕ) → All (λ (r : Held). r.class ≡ class) (cached_in lists class))
+
 -- What a client has is so among the arenas: its regions are those that it holds there, each that is held stands by its address
--- and each that is cached in the list of its class, and the client is bound to the arena from which it allocates.
+-- and each that is cached in the list of its class, in explicit caches too, and the client is bound to the arena from which it allocates.
 pub record HasRegions (together : Bool) (records : List Record) (c : ℕ) (desk : DeskFacts) : Type 0 where
   pub hands : IsInHands together records c desk
   pub keyed : All (λ (e : ℕ × Held). e.0 ≡ e.1.addr) desk.held
   pub lists : length desk.cached ≡ 41
   pub classed : (class : ℕ) → All (λ (r : Held). r.class ≡ class) (cached_in desk.cached class)
+  pub places : All IsInClasses desk.set
   pub arena : desk.arena < 32
   pub bound : (mine_in records c desk.arena).bound ≡ true
 
--- A client without an open call has nothing in flight, and nothing in hand.
+-- A client without an open call has nothing in flight, nothing in hand, and nothing gained, and its own cache is in its place.
 pub record IsAtRest (together : Bool) (records : List Record) (c : ℕ) (desk : DeskFacts) : Type 0 where
   pub has : HasRegions together records c desk
   pub idle : IsIdle records c
   pub empty : desk.hand ≡ None
+  pub gained : desk.gained ≡ None
+  pub own : desk.swapped ≡ None
 
 -- A client's call waits at a point of an arena, and what the client has suits it.
 pub record Sits (together : Bool) (records : List Record) (c : ℕ) (desk : DeskFacts) (request : Request) (arena : ℕ) (point : Point) : Type 0 where

@@ -9,22 +9,24 @@ pub use Rattle.call_plan.specs.Needs.{Goes}
 pub use Rattle.call_plan.specs.Rooms.{flying, needed_at}
 pub use Rattle.call_plan.specs.Runs.{Moment, after, begin}
 pub use Rattle.call_plan.specs.Table.{WantAsk, WantTurn, is_marked, want}
-pub use Rattle.call_plan.specs.Words.{AnswersTo, AskFacts, Asks, DeskFacts, Ends, Go, Gone, Held, Item, Mine, More, Next, Nowhere, Op, Over, Point, Replied, Reply, SetBound, Setting, Starved, Tells, Told, Turns, Unbind, batch_of, cached_in, cached_of, going, mine, slots_at}
+pub use Rattle.call_plan.specs.Words.{AnswersTo, AskFacts, Asks, DeskFacts, Ends, Go, Gone, Held, Item, Mine, More, Move, Next, Nowhere, Op, Over, Point, Replied, Reply, SetBound, Setting, Starved, Tells, Told, Turns, Unbind, batch_of, cached_in, cached_of, going, mine, pages_at, slots_at}
 pub use Rattle.call_plan.specs.declared.needs.Answered.TheVariants.{Ok}
 pub use Rattle.call_plan.specs.declared.needs.Given.TheVariants.{Region}
 pub use Rattle.call_plan.specs.declared.needs.Request.{Request}
 pub use Rattle.call_plan.specs.declared.needs.Request.TheVariants.{Bind, Publish}
 pub use Rattle.call_plan.specs.declared.points.AskPoint.{AskPoint}
-pub use Rattle.call_plan.specs.declared.points.AskPoint.TheVariants.{Committing, Decommitting, Easing, Forcing, Granting, Growing, Merging, Needing, Paring, Returning, Skipping, Trimming}
+pub use Rattle.call_plan.specs.declared.points.AskPoint.TheVariants.{Committing, Decommitting, Easing, Forcing, Granting, Growing, Merging, Needing, Paring, Returning, Skipping, Trimming, Cutting, Extending, Sparing, Backing, Joining}
+pub use Rattle.call_plan.specs.declared.points.Resize.{Resize}
 pub use Rattle.call_plan.specs.declared.points.Change.{Change}
 pub use Rattle.call_plan.specs.declared.points.Change.TheVariants.{Leaves, Stops, Visits}
 pub use Rattle.call_plan.specs.declared.points.Then.{Then}
-pub use Rattle.call_plan.specs.declared.points.Then.TheVariants.{Batches, Visiting}
+pub use Rattle.call_plan.specs.declared.points.Then.TheVariants.{Batches, Visiting, Moving}
 pub use Rattle.call_plan.specs.declared.points.TurnPoint.{TurnPoint}
-pub use Rattle.call_plan.specs.declared.points.TurnPoint.TheVariants.{Changing, Destroying, Filling, Finding, Giving, Landing, Looking, Offering, Publishing, Resetting}
+pub use Rattle.call_plan.specs.declared.points.TurnPoint.TheVariants.{Changing, Destroying, Filling, Finding, Giving, Landing, Looking, Offering, Publishing, Resetting, Owning, Widening, Narrowing}
 pub use Rattle.hook_api.specs.Kept.{IsKept}
 pub use Rattle.recorded_arena.specs.Records.{Record, opening_space, record_after}
 pub use Rattle.space_model.specs.Sound.{Sound}
 pub use Rattle.space_model.specs.Span.{has_page}
 pub use Rattle.space_model.specs.Step.{reply_to, stands}
 pub use Rattle.space_model.specs.declared.parts.Region.{Region as SpaceRegion}
+pub use Rattle.cache_set.specs.Sets.{Place, explicit}

@@ -102,3 +102,8 @@ read_is_cached lists class place (Some held) inside e =
     let here : has_at held.addr (cached_in lists class) ≡ true =
     list_any_at (is_at held.addr) (cached_in lists class) place held (slice_get_within (cached_in lists class) place held e) (rw there (grind (arith, nat_tests))) in
     list_any_at (has_at held.addr) lists class [] inside here
+
+-- whether any passes a test, read through a function
+pub any_through : {X Y : Type 0} (f : X → Y) (p : Y → Bool) (xs : List X) → list_any p (map f xs) ≡ list_any (λ x. p (f x)) xs
+any_through f p [] = refl
+any_through f p (x ∷ xs) = ap (λ v. p (f x) || v) (any_through f p xs)

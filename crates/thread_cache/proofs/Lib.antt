@@ -2,4 +2,3 @@ pub mod Words
 pub mod ByClass
 pub mod Flat
 pub mod Gone
-pub mod Going

@@ -21,6 +21,5 @@ pub use Rattle.std.proofs.lemmas.List.Quantifiers.{position-Some}
 pub use Rattle.std.proofs.lemmas.Map.Made.{filter_same_pairs}
 pub use Rattle.std.proofs.lemmas.Option.{get_or_from_slice_get, slice_get_within}
 pub use Rattle.size_classes.specs.Classes.{slots_at}
-pub use Rattle.thread_cache.specs.Caches.{cached_in, gone_from, is_elsewhere, Listed, IsByClass, addrs_of, changed_at, dropped, has_at, is_at, is_cached, regions_of, without, without_place, IsStack}
-pub use Rattle.thread_cache.specs.Desks.{BatchFacts, BatchesEnd, BatchesRise, IsBatch, added, addrs_in, batch_of, gave_with, going, going_with, is_cacheable, is_in_arena, least_arena, lesser, older_count, rising_from, DeskFacts, DeskSeen, discarding}
+pub use Rattle.thread_cache.specs.Caches.{cached_in, gone_from, is_elsewhere, is_in_arena, is_empty, Listed, IsByClass, addrs_of, changed_at, dropped, has_at, is_at, is_cached, regions_of, without, without_place, IsStack}
 pub use Rattle.thread_cache.specs.declared.Held.{Held}

@@ -1,6 +1,6 @@
 -- A cache of regions: one list for each class, in the order in which the regions were put.
-use Rattle.std.specs.Prelude.{◌≡◌, ℕ, ◌==◌, ◌≤◌, nat_lt, Bool, not, if◌then◌else◌, List, [], ◌∷◌, ◌++◌, drop, filter, length, map, remove, take, slice_index_or, slice_set, Option, Some, None, vec_capacity}
-use Rattle.std.specs.List.{list_any, position, range_with_len}
+use Rattle.std.specs.Prelude.{◌≡◌, ℕ, ◌==◌, ◌≤◌, nat_lt, Bool, not, if◌then◌else◌, List, [], ◌∷◌, ◌++◌, drop, filter, length, map, remove, replicate, take, slice_index_or, slice_set, Option, Some, None, vec_capacity}
+use Rattle.std.specs.List.{flat_map, list_any, position, range_with_len}
 use Rattle.size_classes.specs.Classes.{slots_at}
 use Rattle.thread_cache.specs.declared.Held.{Held}
 use Rattle.thread_cache.specs.declared.stacks.Put.{Put}
@@ -42,6 +42,22 @@ told_in class held regions = if nat_lt (length regions) (slots_at class) then Ke
 abbrev pub without_place : {X : Type 0} → List X → Option ℕ → List X
 without_place xs None = xs
 without_place xs (Some i) = remove xs i
+
+-- whether a region is of an arena
+abbrev pub is_in_arena : ℕ → Held → Bool
+is_in_arena arena region = region.arena == arena
+
+-- all regions of a cache, class by class
+abbrev pub all_cached : List (List Held) → List Held
+all_cached lists = flat_map (λ list. list) lists
+
+-- whether a cache has no region
+abbrev pub is_empty : List (List Held) → Bool
+is_empty lists = not (list_any (λ list. nat_lt 0 (length list)) lists)
+
+-- an empty cache
+abbrev pub no_regions : List (List Held)
+no_regions = replicate 41 []
 
 -- whether a region is of another arena
 abbrev pub is_elsewhere : ℕ → Held → Bool

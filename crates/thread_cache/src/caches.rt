@@ -1,9 +1,9 @@
 //! A client's cache: the cached regions of each class.
 
-ghost use Rattle.std.specs.Prelude.{◌≡◌, ℕ, ◌/◌, ◌<◌, ◌≤◌, [], ◌∷◌, ◌++◌, filter, length, map, replicate, take, slice_get, slice_set, true, IfOk, IfSome, IfNone};
-ghost use Rattle.std.specs.List.{position};
+ghost use Rattle.std.specs.Prelude.{◌≡◌, ℕ, ◌*◌, ◌/◌, ◌<◌, ◌≤◌, [], ◌∷◌, ◌++◌, count_by, filter, length, map, nat_lt, take, slice_get, slice_set, true, IfOk, IfSome, IfNone};
+ghost use Rattle.std.specs.List.{list_any, position};
 ghost use Rattle.size_classes.specs.Classes.{slots_at};
-ghost use Rattle.thread_cache.specs.Caches.{Listed, addrs_of, cached_in, dropped, gone_from, has_at, is_cached, is_elsewhere, put_in, told_in};
+ghost use Rattle.thread_cache.specs.Caches.{Listed, addrs_of, all_cached, cached_in, dropped, gone_from, has_at, is_cached, is_elsewhere, is_empty, is_in_arena, no_regions, put_in, told_in};
 
 use crate::Held;
 use crate::stacks::{Put, Stack};
@@ -39,10 +39,31 @@ fn class_of(stacks: &[Stack], addr: u64) -> Option<usize>
     stacks.iter().position(|stack| stack.has(addr))
 }
 
+/// Whether a region of any class is cached.
+fn has_any(stacks: &[Stack]) -> bool
+    ensures { result ≡ list_any (λ (stack : Listed). nat_lt 0 (length stack.regions)) stacks.now }
+{
+    stacks.iter().any(|stack| stack.len() > 0)
+}
+
+/// How many of some regions are of an arena.
+fn count_of(regions: &[Held], arena: u32) -> u64
+    ensures count { result ≡ count_by (is_in_arena arena) regions.now }
+    ensures within { result ≤ length regions.now }
+{
+    let mut count = 0;
+    for region in regions {
+        if region.arena == arena {
+            count += 1;
+        }
+    }
+    count
+}
+
 impl Cache {
     /// An empty cache, with room for all its slots.
     pub fn new(alloc: Global) -> Result<Cache, NoMemory>
-        ensures { IfOk result (λ cache. cache ≡ replicate 41 []) }
+        ensures { IfOk result (λ cache. cache ≡ no_regions) }
     {
         let mut stacks = Vec::with_capacity(alloc, CACHED_CLASSES as usize)?;
         for class in 0..CACHED_CLASSES {
@@ -91,7 +112,7 @@ impl Cache {
     }
 
     /// The regions of the class, in the order in which they were put.
-    pub(crate) fn of_class(&self, class: u8) -> &[Held]
+    pub fn of_class(&self, class: u8) -> &[Held]
         requires { class < 41 }
         ensures list { result.now ≡ cached_in self.now class }
         ensures within { length result.now ≤ 200 }
@@ -101,7 +122,7 @@ impl Cache {
     }
 
     /// Takes all regions of an arena out.
-    pub(crate) fn drop_of(&mut self, arena: u32)
+    pub fn drop_of(&mut self, arena: u32)
         ensures { self.new ≡ map (filter (is_elsewhere arena)) self.old }
     {
         for class in 0..CACHED_CLASSES {
@@ -110,12 +131,31 @@ impl Cache {
     }
 
     /// Of so many regions of the class that were put first, takes those of an arena out.
-    pub(crate) fn drop_first_of(&mut self, class: u8, count: u32, arena: u32)
+    pub fn drop_first_of(&mut self, class: u8, count: u32, arena: u32)
         requires class { class < 41 }
         requires within { count ≤ length (cached_in self.old class) }
         ensures { self.new ≡ slice_set self.old class (gone_from arena count (cached_in self.old class)) }
     {
         self.stacks[class as usize].drop_first_of(count as usize, arena);
+    }
+
+    /// How many regions of an arena are cached, of whatever class.
+    pub fn count_of(&self, arena: u32) -> u64
+        ensures count { result ≡ count_by (is_in_arena arena) (all_cached self.now) }
+        ensures within { result ≤ 41 * 200 }
+    {
+        let mut count = 0;
+        for class in 0..CACHED_CLASSES {
+            count += count_of(self.of_class(class), arena);
+        }
+        count
+    }
+
+    /// Whether no region is cached.
+    pub fn is_empty(&self) -> bool
+        ensures { result ≡ is_empty self.now }
+    {
+        !has_any(self.stacks.as_slice())
     }
 
     /// How many regions of the class are cached, at most its slots.

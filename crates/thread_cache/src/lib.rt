@@ -1,16 +1,10 @@
 //! What a client keeps of the regions that it has: a cache of those that it may hand out again without a turn.
 #![tactic(auto)]
 
-mod batches;
 mod caches;
-mod desks;
-mod laws;
 mod stacks;
 
-pub use batches::Batch;
 pub use caches::Cache;
-pub use desks::Desk;
-pub use laws::{batches_end, batches_rise};
 pub use stacks::Put;
 
 /// A region that a client has.

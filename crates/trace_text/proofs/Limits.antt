@@ -1,5 +1,5 @@
 -- The limits that a line keeps to.
-use Rattle.trace_text.proofs.Words.{◌≡◌, ℕ, ℤ, pos, negsuc, ◌^◌, ◌<◌, ◌≤◌, ◌||◌, ◌∙◌, lit≤, Bool, true, false, ltb, leb, eqb, cond, List, [], ◌∷◌, Result, Ok, Err, refl, arith, IfOk, codes, bytes_eq, ltb-true, ltb-false, Rest, is_purgeable, is_decay_time, LineFault, Words, Range, Verb, Free, Publish, Take, Purge, Decay, Reset, Destroy, Create, Bind, Cache, Flush, CtlWrite, Line, ◌>>=◌, both, Gives, decimal_of, name_of, control_of, value_of, client_of, box_of, index_of, time_of, rounds_of, nothing_of, in_one, pointer_of, malloc_of, memalign_of, decay_time_of, switch_of, control_call_of, client_verb_of, arena_verb_of, unused_verb_of, verb_of, refusals_of, plan_line_of, phase_line_of, client_line_of, other_line_of, begins_client, said_of, IsVerbWithinLimits, IsWithinLimits}
+use Rattle.trace_text.proofs.Words.{◌≡◌, ℕ, ℤ, pos, negsuc, ◌^◌, ◌<◌, Bool, true, false, ltb, leb, eqb, cond, List, [], ◌∷◌, Result, Ok, Err, refl, arith, IfOk, codes, bytes_eq, ltb-true, ltb-false, Rest, is_purgeable, is_decay_time, LineFault, Words, Range, Verb, Free, Publish, Take, Purge, Decay, Reset, Destroy, Create, Bind, Cache, Flush, CtlWrite, Line, ◌>>=◌, both, Gives, decimal_of, name_of, control_of, value_of, client_of, box_of, index_of, time_of, nothing_of, in_one, pointer_of, named_size_of, memalign_of, decay_time_of, switch_of, control_call_of, malloc_in_of, free_in_of, slot_verb_of, client_verb_of, arena_verb_of, unused_verb_of, verb_of, refusals_of, plan_line_of, client_line_of, other_line_of, begins_client, said_of, IsVerbWithinLimits, IsWithinLimits, ◌≤◌, ◌||◌, ◌∙◌, lit≤, rounds_of, phase_line_of}
 use Rattle.trace_text.specs.declared.lines.Line.TheVariants.{Call, Start, Step, End, At, Counts, Phase, Join}
 
 abbrev IsAny : {A : Type 0} → A → Type 0
@@ -81,13 +81,6 @@ create_call : (words : List (List ℕ)) → IfOk (in_one box_of words >>= λ b. 
 create_call words =
     kept_on (IsBelow 32) IsVerbWithinLimits (in_one box_of words) _ (kept_one (IsBelow 32) box_of words box_below) (λ b h. h)
 
-malloc_within : (words : List (List ℕ)) → IfOk (malloc_of words) IsVerbWithinLimits
-unfolding malloc_of
-malloc_within [] = tt
-malloc_within (name ∷ []) = tt
-malloc_within (name ∷ size ∷ []) = free_call _ (λ p. tt) (both (name_of name) (decimal_of size))
-malloc_within (name ∷ size ∷ more ∷ words) = tt
-
 memalign_within : (words : List (List ℕ)) → IfOk (memalign_of words) IsVerbWithinLimits
 unfolding memalign_of
 memalign_within [] = tt
@@ -123,12 +116,39 @@ control_within (name ∷ equals ∷ value ∷ []) =
     (free_call (λ p. CtlWrite p.0 p.1) (λ p. tt) (both (control_of name) (value_of value))) tt
 control_within (name ∷ equals ∷ value ∷ more ∷ words) = tt
 
+malloc_in_within : (words : List (List ℕ)) → IfOk (malloc_in_of words) IsVerbWithinLimits
+unfolding malloc_in_of
+malloc_in_within [] = tt
+malloc_in_within (name ∷ []) = tt
+malloc_in_within (name ∷ size ∷ []) = tt
+malloc_in_within (name ∷ size ∷ slot ∷ []) =
+    kept_on (λ p. IsAny p.0 × (IsAny p.1.0 × IsBelow (2 ^ 32) p.1.1)) IsVerbWithinLimits (both (name_of name) (both (decimal_of size) (index_of slot))) _
+    (kept_both IsAny (λ p. IsAny p.0 × IsBelow (2 ^ 32) p.1) (name_of name) (both (decimal_of size) (index_of slot)) (kept_any (name_of name))
+    (kept_both IsAny (IsBelow (2 ^ 32)) (decimal_of size) (index_of slot) (kept_any (decimal_of size)) (index_below slot)))
+    (λ p h. h.1.1)
+malloc_in_within (name ∷ size ∷ slot ∷ more ∷ words) = tt
+
+free_in_within : (words : List (List ℕ)) → IfOk (free_in_of words) IsVerbWithinLimits
+unfolding free_in_of
+free_in_within [] = tt
+free_in_within (region ∷ []) = tt
+free_in_within (region ∷ slot ∷ []) =
+    kept_on (λ p. IsAny p.0 × IsBelow (2 ^ 32) p.1) IsVerbWithinLimits (both (pointer_of region) (index_of slot)) _
+    (kept_both IsAny (IsBelow (2 ^ 32)) (pointer_of region) (index_of slot) (kept_any (pointer_of region)) (index_below slot)) (λ p h. h.1)
+free_in_within (region ∷ slot ∷ more ∷ words) = tt
+
+slot_verb_within : (word : List ℕ) (arguments : List (List ℕ)) → IfOk (slot_verb_of word arguments) IsVerbWithinLimits
+unfolding slot_verb_of
+slot_verb_within word arguments =
+    kept_either IsVerbWithinLimits (bytes_eq word (codes "mallocx")) (malloc_in_of arguments) _ (malloc_in_within arguments)
+    (kept_either IsVerbWithinLimits (bytes_eq word (codes "freex")) (free_in_of arguments) (Err Words) (free_in_within arguments) tt)
+
 client_verb_within : (word : List ℕ) (arguments : List (List ℕ)) → IfOk (client_verb_of word arguments) IsVerbWithinLimits
 unfolding client_verb_of
 client_verb_within word arguments =
     kept_either IsVerbWithinLimits (bytes_eq word (codes "cache")) (in_one switch_of arguments) _ (kept_one IsVerbWithinLimits switch_of arguments switch_within)
     (kept_either IsVerbWithinLimits (bytes_eq word (codes "flush")) (nothing_of arguments >>= λ _. Ok Flush) _ (free_call (λ u. Flush) (λ u. tt) (nothing_of arguments))
-    (kept_either IsVerbWithinLimits (bytes_eq word (codes "ctl")) (control_call_of arguments) (Err Words) (control_within arguments) tt))
+    (kept_either IsVerbWithinLimits (bytes_eq word (codes "ctl")) (control_call_of arguments) _ (control_within arguments) (slot_verb_within word arguments)))
 
 arena_verb_within : (word : List ℕ) (arguments : List (List ℕ)) → IfOk (arena_verb_of word arguments) IsVerbWithinLimits
 unfolding arena_verb_of
@@ -152,12 +172,13 @@ verb_within : (words : List (List ℕ)) → IfOk (verb_of words) IsVerbWithinLim
 unfolding verb_of
 verb_within [] = tt
 verb_within (word ∷ arguments) =
-    kept_either IsVerbWithinLimits (bytes_eq word (codes "malloc")) _ _ (malloc_within arguments)
+    kept_either IsVerbWithinLimits (bytes_eq word (codes "malloc")) _ _ (free_call _ (λ p. tt) (named_size_of arguments))
     (kept_either IsVerbWithinLimits (bytes_eq word (codes "free")) _ _ (free_call Free (λ p. tt) (in_one pointer_of arguments))
     (kept_either IsVerbWithinLimits (bytes_eq word (codes "memalign")) _ _ (memalign_within arguments)
+    (kept_either IsVerbWithinLimits (bytes_eq word (codes "realloc")) _ _ (free_call _ (λ p. tt) (named_size_of arguments))
     (kept_either IsVerbWithinLimits (bytes_eq word (codes "publish")) _ _ (free_call Publish (λ p. tt) (in_one pointer_of arguments))
     (kept_either IsVerbWithinLimits (bytes_eq word (codes "take")) _ _ (free_call Take (λ p. tt) (in_one pointer_of arguments))
-    (unused_verb_within word arguments)))))
+    (unused_verb_within word arguments))))))
 
 plan_within : (words : List (List ℕ)) → IfOk (plan_line_of words) IsWithinLimits
 unfolding plan_line_of

@@ -1,5 +1,5 @@
 -- How the shapes of a line are told apart.
-use Rattle.trace_text.proofs.Words.{◌≡◌, ℕ, ◌<◌, Bool, true, false, eqb, ltb, cond, List, [], ◌∷◌, length, take, drop, Result, Ok, Err, refl, arith, IfErr, cond_both, and-true, pointwise, LineFault, Words, ◌>>=◌, both, first_cause, NumberFault, NotDigits, NotNumeral, caused, decimal_in_word, decimal_of, hexadecimal_of, name_of, client_of, nothing_of, pointer_of, malloc_of, memalign_of, decay_time_of, control_call_of, client_verb_of, arena_verb_of, unused_verb_of, verb_of, plan_line_of, phase_line_of, client_line_of, other_line_of, said_of}
+use Rattle.trace_text.proofs.Words.{◌≡◌, ℕ, ◌<◌, Bool, true, false, eqb, ltb, cond, List, [], ◌∷◌, length, take, drop, Result, Ok, Err, refl, arith, IfErr, cond_both, and-true, pointwise, LineFault, Words, ◌>>=◌, both, first_cause, NumberFault, NotDigits, NotNumeral, caused, decimal_in_word, decimal_of, hexadecimal_of, name_of, client_of, nothing_of, pointer_of, named_size_of, memalign_of, decay_time_of, control_call_of, malloc_in_of, free_in_of, slot_verb_of, client_verb_of, arena_verb_of, unused_verb_of, verb_of, plan_line_of, client_line_of, other_line_of, said_of, phase_line_of}
 use Rattle.trace_text.specs.declared.lines.Ptr.TheVariants.{Name, At}
 
 -- a word that doesn't begin with `@` is a name
@@ -57,7 +57,7 @@ both_later (Ok x) s later h = rw h refl
 both_later (Err e) s later h = rw (h, later) refl
 
 verb_long : (verb a b c d : List ℕ) (words : List (List ℕ)) → verb_of (verb ∷ a ∷ b ∷ c ∷ d ∷ words) ≡ Err Words
-unfolding nothing_of malloc_of memalign_of decay_time_of control_call_of client_verb_of arena_verb_of unused_verb_of verb_of
+unfolding nothing_of named_size_of memalign_of decay_time_of control_call_of malloc_in_of free_in_of slot_verb_of client_verb_of arena_verb_of unused_verb_of verb_of
 verb_long verb a b c d words = simp cond_same
 
 client_line_long : (client a b c d e f : List ℕ) (words : List (List ℕ)) → client_line_of client (a ∷ b ∷ c ∷ d ∷ e ∷ f ∷ words) ≡ Err Words

@@ -22,8 +22,8 @@ pub use Rattle.trace_text.specs.declared.lines.Line.{Line}
 unfoldable pub use Rattle.trace_text.specs.Causes.{◌>>=◌, both, Gives, first_cause, GivesCause}
 unfoldable pub use Rattle.trace_text.specs.Names.{name_of, control_of, value_of}
 unfoldable pub use Rattle.trace_text.specs.Ranges.{client_of, box_of, index_of, time_of, rounds_of}
-unfoldable pub use Rattle.trace_text.specs.Verbs.{nothing_of, in_one, pointer_of, malloc_of, memalign_of, decay_time_of, switch_of, control_call_of, client_verb_of, arena_verb_of, unused_verb_of, verb_of}
-unfoldable pub use Rattle.trace_text.specs.Grammar.{refusals_of, plan_line_of, phase_line_of, client_line_of, other_line_of, begins_client, said_of, IsVerbWithinLimits, IsWithinLimits, words_of, is_printable}
+unfoldable pub use Rattle.trace_text.specs.Verbs.{nothing_of, in_one, pointer_of, named_size_of, memalign_of, decay_time_of, switch_of, control_call_of, malloc_in_of, free_in_of, slot_verb_of, client_verb_of, arena_verb_of, unused_verb_of, verb_of}
+unfoldable pub use Rattle.trace_text.specs.Grammar.{refusals_of, plan_line_of, client_line_of, other_line_of, begins_client, said_of, IsVerbWithinLimits, IsWithinLimits, words_of, is_printable, phase_line_of}
 pub use Rattle.std.proofs.lemmas.List.Folds.{drop_split, list_all_more}
 pub use Rattle.std.proofs.lemmas.List.Splits.{length-slice_split, slice_split_at, slice_split_none}
 pub use Rattle.std.specs.Option.{ok_or}

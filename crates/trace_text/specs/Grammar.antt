@@ -9,7 +9,7 @@ use Rattle.space_model.specs.Settings.{is_decay_time}
 use Rattle.trace_text.specs.declared.faults.LineFault.{LineFault}
 use Rattle.trace_text.specs.declared.faults.LineFault.TheVariants.{Bytes, Words}
 use Rattle.trace_text.specs.declared.lines.Verb.{Verb}
-use Rattle.trace_text.specs.declared.lines.Verb.TheVariants.{Malloc, Memalign, Free, Publish, Take, Purge, Decay, Time, Reset, Destroy, Create, Bind, Cache, Flush, CtlPlain, CtlWrite}
+use Rattle.trace_text.specs.declared.lines.Verb.TheVariants.{Malloc, Memalign, Realloc, Free, Publish, Take, Purge, Decay, Time, Reset, Destroy, Create, Bind, Cache, Flush, MallocIn, FreeIn, CtlPlain, CtlWrite}
 use Rattle.trace_text.specs.declared.lines.Line.{Line}
 use Rattle.trace_text.specs.declared.lines.Line.TheVariants.{Blank, Call, Start, Step, End, At, Refuse, Counts, Phase, Join}
 use Rattle.trace_text.specs.Causes.{◌>>=◌, both}
@@ -104,11 +104,12 @@ line_of line =
     if list_all is_printable line then (if is_blank line then Ok Blank else said_of (words_of line))
     else Err Bytes
 
--- what every call that is read keeps to: its arena is below 2 ^ 32, its box below 32, and its time one that may be set of
+-- what every call that is read keeps to: its arena and its explicit cache are below 2 ^ 32, its box is below 32, and its time one that may be set of
 -- a list that is purged
 abbrev pub IsVerbWithinLimits : Verb → Type 0
 IsVerbWithinLimits (Malloc name size) = Unit {0}
 IsVerbWithinLimits (Memalign name align size) = Unit {0}
+IsVerbWithinLimits (Realloc name size) = Unit {0}
 IsVerbWithinLimits (Free region) = Unit {0}
 IsVerbWithinLimits (Publish region) = Unit {0}
 IsVerbWithinLimits (Take region) = Unit {0}
@@ -121,6 +122,8 @@ IsVerbWithinLimits (Create box_no) = box_no < 32
 IsVerbWithinLimits (Bind arena) = arena < 2 ^ 32
 IsVerbWithinLimits (Cache is_on) = Unit {0}
 IsVerbWithinLimits Flush = Unit {0}
+IsVerbWithinLimits (MallocIn name size slot) = slot < 2 ^ 32
+IsVerbWithinLimits (FreeIn region slot) = slot < 2 ^ 32
 IsVerbWithinLimits (CtlPlain name) = Unit {0}
 IsVerbWithinLimits (CtlWrite name value) = Unit {0}
 

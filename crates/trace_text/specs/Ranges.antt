@@ -15,7 +15,7 @@ client_of (b ∷ digits) = if b == 116 then (decimal_of digits >>= λ c. if nat_
 unfoldable pub box_of : List ℕ → Result ℕ LineFault
 box_of word = decimal_of word >>= λ b. if nat_lt 31 b then Err Range else Ok b
 
--- an arena, by its index, which is below 2 ^ 32
+-- an arena or an explicit cache, by its index, which is below 2 ^ 32
 unfoldable pub index_of : List ℕ → Result ℕ LineFault
 index_of word = decimal_of word >>= λ i. if nat_lt i (2 ^ 32) then Ok i else Err Range
 

@@ -9,7 +9,7 @@ use Rattle.trace_text.specs.declared.faults.LineFault.TheVariants.{Words}
 use Rattle.trace_text.specs.declared.lines.Ptr.{Ptr}
 use Rattle.trace_text.specs.declared.lines.Ptr.TheVariants.{Name, At}
 use Rattle.trace_text.specs.declared.lines.Verb.{Verb}
-use Rattle.trace_text.specs.declared.lines.Verb.TheVariants.{Malloc, Memalign, Free, Publish, Take, Purge, Decay, Time, Reset, Destroy, Create, Bind, Cache, Flush, CtlPlain, CtlWrite}
+use Rattle.trace_text.specs.declared.lines.Verb.TheVariants.{Malloc, Memalign, Realloc, Free, Publish, Take, Purge, Decay, Time, Reset, Destroy, Create, Bind, Cache, Flush, MallocIn, FreeIn, CtlPlain, CtlWrite}
 use Rattle.trace_text.specs.Causes.{◌>>=◌, both}
 use Rattle.trace_text.specs.Numbers.{decimal_of, hexadecimal_of}
 use Rattle.trace_text.specs.Names.{name_of, control_of, value_of}
@@ -30,10 +30,10 @@ unfoldable pub pointer_of : List ℕ → Result Ptr LineFault
 pointer_of [] = Err Words
 pointer_of (b ∷ digits) = if b == 64 then (hexadecimal_of digits >>= λ a. Ok (At a)) else (name_of (b ∷ digits) >>= λ n. Ok (Name n))
 
--- the arguments of a malloc: NAME N
-unfoldable pub malloc_of : List (List ℕ) → Result Verb LineFault
-malloc_of (name ∷ size ∷ []) = both (name_of name) (decimal_of size) >>= λ p. Ok (Malloc p.0 p.1)
-malloc_of _ = Err Words
+-- the arguments of a malloc or a realloc: NAME N
+unfoldable pub named_size_of : List (List ℕ) → Result (List ℕ × ℕ) LineFault
+named_size_of (name ∷ size ∷ []) = both (name_of name) (decimal_of size)
+named_size_of _ = Err Words
 
 -- the arguments of a memalign: NAME ALIGN N
 unfoldable pub memalign_of : List (List ℕ) → Result Verb LineFault
@@ -61,13 +61,31 @@ control_call_of (name ∷ equals ∷ value ∷ []) =
     else Err Words
 control_call_of _ = Err Words
 
+-- the arguments of a malloc in an explicit cache: NAME N K
+unfoldable pub malloc_in_of : List (List ℕ) → Result Verb LineFault
+malloc_in_of (name ∷ size ∷ slot ∷ []) =
+    both (name_of name) (both (decimal_of size) (index_of slot)) >>= λ p. Ok (MallocIn p.0 p.1.0 p.1.1)
+malloc_in_of _ = Err Words
+
+-- the arguments of a free by an explicit cache: PTR K
+unfoldable pub free_in_of : List (List ℕ) → Result Verb LineFault
+free_in_of (region ∷ slot ∷ []) = both (pointer_of region) (index_of slot) >>= λ p. Ok (FreeIn p.0 p.1)
+free_in_of _ = Err Words
+
+-- a call in an explicit cache
+unfoldable pub slot_verb_of : List ℕ → List (List ℕ) → Result Verb LineFault
+slot_verb_of word arguments =
+    if bytes_eq word (codes "mallocx") then malloc_in_of arguments
+    else (if bytes_eq word (codes "freex") then free_in_of arguments
+    else Err Words)
+
 -- a call about what its client keeps, or about a control
 unfoldable pub client_verb_of : List ℕ → List (List ℕ) → Result Verb LineFault
 client_verb_of word arguments =
     if bytes_eq word (codes "cache") then in_one switch_of arguments
     else (if bytes_eq word (codes "flush") then (nothing_of arguments >>= λ _. Ok Flush)
     else (if bytes_eq word (codes "ctl") then control_call_of arguments
-    else Err Words))
+    else slot_verb_of word arguments))
 
 -- a call about an arena as a whole
 unfoldable pub arena_verb_of : List ℕ → List (List ℕ) → Result Verb LineFault
@@ -91,9 +109,10 @@ unused_verb_of word arguments =
 unfoldable pub verb_of : List (List ℕ) → Result Verb LineFault
 verb_of [] = Err Words
 verb_of (word ∷ arguments) =
-    if bytes_eq word (codes "malloc") then malloc_of arguments
+    if bytes_eq word (codes "malloc") then (named_size_of arguments >>= λ p. Ok (Malloc p.0 p.1))
     else (if bytes_eq word (codes "free") then (in_one pointer_of arguments >>= λ p. Ok (Free p))
     else (if bytes_eq word (codes "memalign") then memalign_of arguments
+    else (if bytes_eq word (codes "realloc") then (named_size_of arguments >>= λ p. Ok (Realloc p.0 p.1))
     else (if bytes_eq word (codes "publish") then (in_one pointer_of arguments >>= λ p. Ok (Publish p))
     else (if bytes_eq word (codes "take") then (in_one pointer_of arguments >>= λ p. Ok (Take p))
-    else unused_verb_of word arguments))))
+    else unused_verb_of word arguments)))))

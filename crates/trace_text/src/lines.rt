@@ -20,6 +20,8 @@ pub enum Verb {
     Malloc { name: Name, size: u64 },
     /// `memalign NAME ALIGN N`: the same, at a multiple of `align` bytes.
     Memalign { name: Name, align: u64, size: u64 },
+    /// `realloc NAME N`: the region of the name becomes one of at least `size` bytes, where it is or elsewhere.
+    Realloc { name: Name, size: u64 },
     /// `free PTR`: gives the region back.
     Free(Ptr),
     /// `publish PTR`: leaves the region to whoever takes it.
@@ -44,6 +46,10 @@ pub enum Verb {
     Cache(bool),
     /// `flush`: gives all back that the client has cached.
     Flush,
+    /// `mallocx NAME N K`: as a malloc with the client's cache on, in its explicit cache K, below 2^32.
+    MallocIn { name: Name, size: u64, slot: u32 },
+    /// `freex PTR K`: gives the region back as with the client's cache on, by its explicit cache K, below 2^32.
+    FreeIn { region: Ptr, slot: u32 },
     /// `ctl NAME`: reads a control, or does what it stands for.
     CtlPlain(Name),
     /// `ctl NAME = VALUE`: writes a control.

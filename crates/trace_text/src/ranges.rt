@@ -45,7 +45,7 @@ pub fn box_number(word: &[u8]) -> Result<u32, LineFault>
     Ok(box_no as u32)
 }
 
-/// The index of an arena.
+/// The index of an arena, or of an explicit cache.
 #[tactic(auto, unfolding(crate::specs::Ranges::index_of))]
 pub fn index(word: &[u8]) -> Result<u32, LineFault>
     ensures { result ≡ index_of word.now }

@@ -3,11 +3,11 @@
 ghost use Rattle.std.specs.Prelude.{◌≡◌, map};
 ghost use Rattle.trace_text.specs.Causes.{Gives};
 ghost use Rattle.trace_text.specs.Ranges.{box_of, index_of};
-ghost use Rattle.trace_text.specs.Verbs.{nothing_of, in_one, pointer_of, malloc_of, memalign_of, decay_time_of, switch_of, control_call_of, client_verb_of, arena_verb_of, unused_verb_of, verb_of};
+ghost use Rattle.trace_text.specs.Verbs.{nothing_of, in_one, pointer_of, named_size_of, memalign_of, decay_time_of, switch_of, control_call_of, client_verb_of, slot_verb_of, malloc_in_of, free_in_of, arena_verb_of, unused_verb_of, verb_of};
 
 use crate::parts::{address, both_parts, control, decimal, is, name, written};
 use crate::ranges::{box_number, index, time};
-use crate::{LineFault, Ptr, Verb};
+use crate::{LineFault, Name, Ptr, Verb};
 use space_model::Rest;
 use std::alloc::Global;
 
@@ -20,11 +20,15 @@ pub fn verb(alloc: Global, words: &[&[u8]]) -> Result<Verb, LineFault>
         return Err(LineFault::Words);
     };
     if is(word, "malloc") {
-        malloc(alloc, arguments)
+        let (name, size) = named_size(alloc, arguments)?;
+        Ok(Verb::Malloc { name, size })
     } else if is(word, "free") {
         Ok(Verb::Free(only_pointer(alloc, arguments)?))
     } else if is(word, "memalign") {
         memalign(alloc, arguments)
+    } else if is(word, "realloc") {
+        let (name, size) = named_size(alloc, arguments)?;
+        Ok(Verb::Realloc { name, size })
     } else if is(word, "publish") {
         Ok(Verb::Publish(only_pointer(alloc, arguments)?))
     } else if is(word, "take") {
@@ -82,6 +86,20 @@ fn client_verb(alloc: Global, word: &[u8], arguments: &[&[u8]]) -> Result<Verb, 
     } else if is(word, "ctl") {
         control_call(alloc, arguments)
     } else {
+        slot_verb(alloc, word, arguments)
+    }
+}
+
+/// A call in an explicit cache.
+#[tactic(auto, unfolding(crate::specs::Verbs::slot_verb_of))]
+fn slot_verb(alloc: Global, word: &[u8], arguments: &[&[u8]]) -> Result<Verb, LineFault>
+    ensures { Gives result (slot_verb_of word.now (map (λ w. w.now) arguments.now)) }
+{
+    if is(word, "mallocx") {
+        malloc_in(alloc, arguments)
+    } else if is(word, "freex") {
+        free_in(alloc, arguments)
+    } else {
         Err(LineFault::Words)
     }
 }
@@ -97,15 +115,15 @@ pub fn nothing(words: &[&[u8]]) -> Result<(), LineFault>
     }
 }
 
-#[tactic(auto, unfolding(crate::specs::Verbs::malloc_of), using(crate::proofs::Causes::both_gives))]
-fn malloc(alloc: Global, arguments: &[&[u8]]) -> Result<Verb, LineFault>
-    ensures { Gives result (malloc_of (map (λ w. w.now) arguments.now)) }
+/// A name and a size in bytes.
+#[tactic(auto, unfolding(crate::specs::Verbs::named_size_of), using(crate::proofs::Causes::both_gives))]
+fn named_size(alloc: Global, arguments: &[&[u8]]) -> Result<(Name, u64), LineFault>
+    ensures { Gives result (named_size_of (map (λ w. w.now) arguments.now)) }
 {
-    let [region, bytes] = arguments else {
-        return Err(LineFault::Words);
-    };
-    let (name, size) = both_parts(name(alloc, region), decimal(bytes))?;
-    Ok(Verb::Malloc { name, size })
+    match arguments {
+        [region, bytes] => both_parts(name(alloc, region), decimal(bytes)),
+        _ => Err(LineFault::Words),
+    }
 }
 
 #[tactic(auto, unfolding(crate::specs::Verbs::memalign_of), using(crate::proofs::Causes::both_gives))]
@@ -118,6 +136,29 @@ fn memalign(alloc: Global, arguments: &[&[u8]]) -> Result<Verb, LineFault>
     let numbers = both_parts(decimal(align), decimal(bytes));
     let (name, (align, size)) = both_parts(name(alloc, region), numbers)?;
     Ok(Verb::Memalign { name, align, size })
+}
+
+#[tactic(auto, unfolding(crate::specs::Verbs::malloc_in_of), using(crate::proofs::Causes::both_gives))]
+fn malloc_in(alloc: Global, arguments: &[&[u8]]) -> Result<Verb, LineFault>
+    ensures { Gives result (malloc_in_of (map (λ w. w.now) arguments.now)) }
+{
+    let [region, bytes, slot] = arguments else {
+        return Err(LineFault::Words);
+    };
+    let numbers = both_parts(decimal(bytes), index(slot));
+    let (name, (size, slot)) = both_parts(name(alloc, region), numbers)?;
+    Ok(Verb::MallocIn { name, size, slot })
+}
+
+#[tactic(auto, unfolding(crate::specs::Verbs::free_in_of), using(crate::proofs::Causes::both_gives))]
+fn free_in(alloc: Global, arguments: &[&[u8]]) -> Result<Verb, LineFault>
+    ensures { Gives result (free_in_of (map (λ w. w.now) arguments.now)) }
+{
+    let [region, slot] = arguments else {
+        return Err(LineFault::Words);
+    };
+    let (region, slot) = both_parts(pointer(alloc, region), index(slot))?;
+    Ok(Verb::FreeIn { region, slot })
 }
 
 #[inline(always)]

@@ -15,7 +15,7 @@ fn says(rt: &impl Abort, alloc: Global, line: &[u8], text: &str) -> Result<(), F
 
 #[test]
 fn lines_say_what_is_written(rt: HostRuntime) -> Result<(), Fail> {
-    let table: [(&[u8], &str); 28] = [
+    let table: [(&[u8], &str); 31] = [
         (
             b"t31 malloc z_9 18446744073709551615",
             "Ok(Call { client: 31, verb: Malloc { name: \"z_9\", size: 18446744073709551615 } })",
@@ -23,6 +23,18 @@ fn lines_say_what_is_written(rt: HostRuntime) -> Result<(), Fail> {
         (
             b"t2 memalign a_1 64 3",
             "Ok(Call { client: 2, verb: Memalign { name: \"a_1\", align: 64, size: 3 } })",
+        ),
+        (
+            b"t3 realloc a 0",
+            "Ok(Call { client: 3, verb: Realloc { name: \"a\", size: 0 } })",
+        ),
+        (
+            b"t3 mallocx a 100 4294967295",
+            "Ok(Call { client: 3, verb: MallocIn { name: \"a\", size: 100, slot: 4294967295 } })",
+        ),
+        (
+            b"t3 call freex @a 7",
+            "Ok(Start { client: 3, verb: FreeIn { region: At(10), slot: 7 } })",
         ),
         (b"t0 free @a", "Ok(Call { client: 0, verb: Free(At(10)) })"),
         (
@@ -114,7 +126,7 @@ fn bad_shapes_and_numbers_are_told(rt: HostRuntime) -> Result<(), Fail> {
         b" \n #\nt0  free a\nt0 free a \nt0\nt0 call step\nt0 ctl a = 1 2\nrefuse 0 destroy 1\nphase background\nphase 1\nphase background 1 1";
     all_have(&rt, alloc, shapes, LineFault::Words)?;
     let words =
-        b"t0 malloc A 1\nt0 malloc a +1\nt0 free @A\nt0 free @00000000000000001\nt0 dirty 0 -2\nt0 realloc a 1";
+        b"t0 malloc A 1\nt0 malloc a +1\nt0 free @A\nt0 free @00000000000000001\nt0 dirty 0 -2\nt0 realloc @a 1\nt0 mallocx a 1\nt0 freex a";
     all_have(&rt, alloc, words, LineFault::Words)?;
     let number =
         b"t0 malloc a 01\nt0 malloc a 18446744073709551616\nt0 free @00\nt00 flush\nt32 malloc a 01\nphase background 01";

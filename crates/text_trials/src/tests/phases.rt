@@ -108,6 +108,12 @@ fn the_first_bad_line_is_told(rt: HostRuntime) -> Result<(), Fail> {
         ("phase\nt0 call flush", 2, PhaseCause::Phase),
         ("phase\nt0 free a", 2, PhaseCause::Phase),
         ("phase\nrefuse 0 alloc 1", 2, PhaseCause::Phase),
+        ("phase\nt0 malloc a 1\nt0 realloc a 2", 3, PhaseCause::Phase),
+        ("phase\nt0 mallocx a 1 0", 2, PhaseCause::Phase),
+        ("phase\nt0 malloc a 1\nt0 freex a 0", 3, PhaseCause::Phase),
+        ("t0 realloc a 2", 1, PhaseCause::Phase),
+        ("t0 mallocx a 1 0", 1, PhaseCause::Phase),
+        ("t0 freex a 0", 1, PhaseCause::Phase),
     ];
     for (text, line, cause) in table {
         is_bad(&rt, rt.alloc(), text, line, cause)?;

@@ -1,12 +1,12 @@
 //! What the calls of workers ask for, by the names that they know, and the counts of answers.
 
-use call_plan::{Answered, Given, Request};
+use call_plan::{Answered, Desk, Given, Request};
 use phase_run::{Job, Names, Place, Tally, request_of, setting_request};
 use space_model::{Rest, Seq};
 use std::alloc::{AllocError, Global};
 use std::process::Abort;
 use std::test::Fail;
-use thread_cache::{Desk, Held};
+use thread_cache::Held;
 use trace_phase::{PhaseCall, SettingCall, Work};
 use trace_text::Name;
 

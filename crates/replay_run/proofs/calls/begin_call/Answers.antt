@@ -1,4 +1,4 @@
-use Rattle.replay_run.proofs.Words.{◌≡◌, ◌∙◌, sym, NotHeld, NoMemory, AsksFor, FindsNone, TellsAt, ap, now_of}
+use Rattle.replay_run.proofs.Words.{◌∙◌, sym, NotHeld, NoMemory, AsksFor, FindsNone, TellsAt, ap, now_of}
 use Rattle.replay_run.proofs.Begins.{answer_result, refused_came, starting_so, told_result, unbegun_stops}
 use Rattle.replay_run.proofs.Stops.{goes_stop}
 use Rattle.replay_run.proofs.calls.begin_call.Goals as goal

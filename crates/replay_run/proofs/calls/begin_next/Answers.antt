@@ -1,4 +1,4 @@
-use Rattle.replay_run.proofs.Words.{◌≡◌, HeapFacts, NoMemory, ap, has_open_call, is_none, refl, sym, ◌∙◌}
+use Rattle.replay_run.proofs.Words.{◌≡◌, HeapFacts, NoMemory, ap, has_open_call, is_none, sym, ◌∙◌}
 use Rattle.heap_core.specs.declared.heaps.Did.TheVariants.{Idle}
 use Rattle.replay_run.proofs.Begins.{unbegun_stops}
 use Rattle.replay_run.proofs.Opens.{start_open}

@@ -1,4 +1,4 @@
-use Rattle.replay_run.proofs.Words.{◌≡◌, ◌≢◌, arith, false, None, Some, Err, Ok, Option, OpenCall, call_at, get_or_read, goes_on, is_none, refl, sym, ◌∙◌, asks-sit, holders-publish, turns-sit, NoMemory, IsSound, has_open_call}
+use Rattle.replay_run.proofs.Words.{◌≡◌, arith, None, Err, Ok, call_at, get_or_read, is_none, sym, ◌∙◌, asks-sit, holders-publish, turns-sit, NoMemory, IsSound, has_open_call}
 use Rattle.replay_run.proofs.Longer.{step_longer}
 use Rattle.replay_run.proofs.Opens.{step_open}
 use Rattle.replay_run.proofs.Steps.{gone_on_ended, moved_result, step_result, step_stops, steps_stop}

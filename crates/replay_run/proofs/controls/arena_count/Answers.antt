@@ -1,4 +1,4 @@
-use Rattle.replay_run.proofs.Words.{arith, ◌≡◌, ◌+◌, ℕ, ◌∷◌, [], ap, refl, sym, ◌∙◌, fold_push, range_with_len, range_with_len_more}
+use Rattle.replay_run.proofs.Words.{arith, ◌≡◌, ◌+◌, ℕ, ap, refl, sym, ◌∙◌, fold_push, range_with_len, range_with_len_more}
 use Rattle.std.specs.Prelude.{fold, if◌then◌else◌}
 use Rattle.replay_run.specs.Controls.{is_live_at}
 use Rattle.replay_run.proofs.controls.arena_count.Goals as goal

@@ -1,4 +1,4 @@
-use Rattle.std.proofs.Common.{◌≡◌, ◌∙◌, All, sym, ap, subst, arith}
+use Rattle.std.proofs.Common.{◌∙◌, All, sym, ap, subst, arith}
 use Rattle.std.proofs.lemmas.List.{take_all}
 use Rattle.heap_stats.specs.Stats.{AreSmallWhereLive}
 use Rattle.replay_run.specs.Counts.{all_counts}

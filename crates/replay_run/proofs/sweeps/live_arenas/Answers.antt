@@ -1,4 +1,4 @@
-use Rattle.replay_run.proofs.Words.{◌≡◌, ◌∷◌, [], ◌++◌, ℕ, List, ap, sym, ◌∙◌}
+use Rattle.replay_run.proofs.Words.{◌∷◌, [], ◌++◌, ℕ, List, ap, sym, ◌∙◌}
 use Rattle.replay_run.specs.Controls.{is_live_at}
 use Rattle.replay_run.proofs.Counting.{failing, passing}
 use Rattle.replay_run.proofs.sweeps.live_arenas.Goals as goal

@@ -6,7 +6,7 @@ pub invariant_of-self : goal.invariant_of-self
 invariant_of-self c =
     let call = c.next.new.self in
     let desk = c.next.new.desk in
-    room_kept call.client desk.room desk.facts.hand (moment_of call desk.facts) call.stage.next c.settle.new.place (c.settle.ensures.open desk.facts) c.next.ensures.room
+    room_kept call.client desk.room desk.facts (moment_of call desk.facts) call.stage.next c.settle.new.place (c.settle.ensures.open desk.facts) c.next.ensures.room
 
 pub returns : goal.returns
 returns c =

@@ -5,5 +5,5 @@ use Rattle.heap_core.proofs.seats.Client.need.Goals as goal
 pub invariant_of-self-2 : goal.invariant_of-self-2
 invariant_of-self-2 c =
     let desk = c.self.inside.desk in
-    let has = subst (λ (k : Option CallFacts). IfSome k (λ call. HasRoomToHold desk.facts.hand desk.room call.stage.next)) c.in-Some.is c.self.invariant in
-    named_rooms desk.room desk.facts.hand desk.facts c.in-Some.call c.need.new.self c.need.ensures.named has
+    let has = subst (λ (k : Option CallFacts). IfSome k (λ call. HasRoomToHold desk.facts desk.room call.stage.next)) c.in-Some.is c.self.invariant in
+    named_rooms desk.room desk.facts desk.facts c.in-Some.call c.need.new.self c.need.ensures.named has

@@ -1,6 +1,0 @@
-use Rattle.thread_cache.proofs.Words.{◌≡◌, ◌<◌, [], fold, length, take, flat_map, added}
-use Rattle.thread_cache.proofs.desks.Desk.cached_in.Given as goal
-
--- the addresses of the classes so far
-abbrev pub invariant-loop-class : goal.invariant-loop-class
-invariant-loop-class l = (l.set.keys ≡ fold (added l.arena) [] (flat_map (λ list. list) (take l.class l.self.facts.cached))) × (0 < l.class → length l.self.facts.cached ≡ 41)

@@ -1,6 +1,0 @@
-use Rattle.thread_cache.proofs.Words.{◌≡◌, ◌<◌, ◌≤◌, ◌*◌, count_by, length, take, flat_map, is_in_arena}
-use Rattle.thread_cache.proofs.desks.Desk.cached_of.Given as goal
-
--- those of the classes so far
-abbrev pub invariant-loop-class : goal.invariant-loop-class
-invariant-loop-class l = (l.count ≡ count_by (is_in_arena l.arena) (flat_map (λ list. list) (take l.class l.self.facts.cached))) × (l.count ≤ 200 * l.class) × (0 < l.class → length l.self.facts.cached ≡ 41)
