@@ -1,13 +1,16 @@
 -- An ask comes only behind a turn of its arena.
 use Rattle.std.proofs.Common.{◌≡◌, ℕ, true, false, Option, None, Some, refl, sym, ◌∙◌, ap, arith}
 use Rattle.std.proofs.lemmas.Bool.Decides.{nat_tests}
+use Rattle.call_plan.specs.Desks.{meant, ready}
+use Rattle.call_plan.specs.Clients.{hit}
+use Rattle.call_plan.specs.Runs.{begin_stage, move_stage}
 use Rattle.call_plan.specs.declared.needs.Request.{Request}
-use Rattle.thread_cache.specs.Desks.{DeskFacts}
+use Rattle.call_plan.specs.Clients.{DeskFacts}
 use Rattle.call_plan.specs.Items.{Item, Replied, Told, Starved}
 use Rattle.space_model.specs.declared.Reply.TheVariants.{Nothing}
 use Rattle.call_plan.specs.declared.points.AskPoint.TheVariants.{Skipping}
 use Rattle.call_plan.specs.declared.points.TurnPoint.TheVariants.{Filling, Dooming}
-use Rattle.call_plan.specs.Stages.{Point, Turns, Asks, Tells, Next, Go, Over, More, Gone, Ends, Nowhere}
+use Rattle.call_plan.specs.Stages.{Point, Turns, Asks, Tells, Next, Go, Over, More, Move, Gone, Ends, Nowhere}
 use Rattle.hook_api.specs.Asked.{AskFacts}
 use Rattle.space_model.specs.declared.Ask.{Ask}
 use Rattle.call_plan.specs.Runs.{Moment, after, begin, settle, step_next}
@@ -25,11 +28,16 @@ over_turns (Go (Turns (Filling wish count))) (Replied Nothing) = tt
 over_turns (Go (Asks (Skipping wish span b skip) (Some asked))) (Replied Nothing) = tt
 over_turns next item = grind (arith, nat_tests)
 
+-- none comes where a region of a class is got in place of the one in hand
+move_turns : (request : Request) (arena class : ℕ) (desk : DeskFacts) → asks_next (move_stage request arena class (hit class desk) desk).next ≡ false
+move_turns request arena class desk = grind (arith, nat_tests)
+
 -- where a step leads to an ask, it is of the same arena
 settled_box : (request : Request) (desk : DeskFacts) (arena : ℕ) (next : Next) → OverTurns next → asks_next (settle request desk arena next).next ≡ true → (settle request desk arena next).arena ≡ arena
 settled_box request desk arena (Go point) over asks = refl
 settled_box request desk arena (Over index point) over asks = absurd (cc)
 settled_box request desk arena More over asks = absurd (grind arith)
+settled_box request desk arena (Move class) over asks = let none = move_turns request arena class desk in absurd (cc)
 settled_box request desk arena Gone over asks = refl
 settled_box request desk arena (Ends answer) over asks = refl
 settled_box request desk arena Nowhere over asks = refl
@@ -61,8 +69,11 @@ pub box_lacked : (at : Moment) (point : Point) (last : Option (ℕ × ℕ)) (box
 box_lacked at point last box_no goes = λ asks. absurd (grind (arith, starved_next))
 
 -- and none where a request begins
+stage_turns : (request : Request) (desk : DeskFacts) → asks_next (begin_stage request desk).next ≡ false
+stage_turns request desk = grind (arith, nat_tests)
+
 pub begin_turns : (request : Request) (desk : DeskFacts) → asks_next (begin request desk).stage.next ≡ false
-begin_turns request desk = grind (arith, nat_tests)
+begin_turns request desk = stage_turns (meant request desk) (ready request desk)
 
 -- an ask is wanted only where one comes
 pub asks_there : (point : Point) (ask : Ask) → want point ≡ WantAsk ask → asks_point point ≡ true

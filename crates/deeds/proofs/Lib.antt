@@ -1,3 +1,5 @@
 pub mod Boxes
 pub mod Leading
 pub mod Refusals
+pub mod Reallocs
+pub mod Ending

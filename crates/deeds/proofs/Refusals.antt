@@ -1,17 +1,18 @@
 -- A refused answer is the ask that the call's last entry carries.
 use Rattle.std.proofs.Common.{◌≡◌, ℕ, true, false, Bool, List, [], ◌∷◌, Option, None, Some, refl, sym, ◌∙◌, ap, arith}
 use Rattle.std.proofs.lemmas.Bool.Decides.{nat_tests}
+use Rattle.call_plan.specs.Desks.{meant, ready}
+use Rattle.call_plan.specs.Runs.{begin_stage}
 use Rattle.call_plan.specs.declared.needs.Request.{Request}
-use Rattle.thread_cache.specs.Desks.{DeskFacts}
-use Rattle.call_plan.specs.Items.{Item, Replied, Told as Heard, Starved}
+use Rattle.call_plan.specs.Clients.{DeskFacts}
 use Rattle.call_plan.specs.declared.points.AskPoint.{AskPoint}
 use Rattle.call_plan.specs.declared.points.TurnPoint.{TurnPoint}
-use Rattle.call_plan.specs.Stages.{Point, Turns, Asks, Tells, Next, Go, Over, More, Gone, Ends, Nowhere, Stage}
+use Rattle.call_plan.specs.Stages.{Point, Turns, Asks, Tells, Next, Go, Ends}
 use Rattle.call_plan.specs.declared.needs.Answered.TheVariants.{Refused}
 use Rattle.hook_api.specs.Asked.{AskFacts}
 use Rattle.space_model.specs.declared.Reply.{Reply}
 use Rattle.call_plan.specs.Runs.{Moment, after, begin, settle, step_next}
-use Rattle.call_plan.specs.Table.{step, told, turn_replied, want, is_marked, starved}
+use Rattle.call_plan.specs.Table.{step, told, turn_replied, want, starved}
 use Rattle.call_plan.specs.Desks.{desk_fed}
 use Rattle.deeds.specs.declared.deeds.Deed.{Deed}
 use Rattle.deeds.specs.Dids.{Did, Took, Asked, Lacked, Follows, RefusalsAreLast, IsWanted, IsWantedAt, Led, carried, carried_last, item_of, told_by}
@@ -65,8 +66,11 @@ refused_last c at last did [] new a led is = follows_refused c at last did a led
 refused_last c at last did (more ∷ dids) new a led is = refused_last c (after at (item_of did)) (told_by last did) more dids new a led.1 is
 
 -- none is refused where a request begins
+stage_refused : (request : Request) (desk : DeskFacts) → refused_by (begin_stage request desk).next ≡ None
+stage_refused request desk = grind (arith, nat_tests)
+
 begin_refused : (request : Request) (desk : DeskFacts) → refused_by (begin request desk).stage.next ≡ None
-begin_refused request desk = grind (arith, nat_tests)
+begin_refused request desk = stage_refused (meant request desk) (ready request desk)
 
 pub refusals-are_last : RefusalsAreLast
 refusals-are_last c had request [] a has call =

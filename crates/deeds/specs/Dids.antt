@@ -1,5 +1,5 @@
 -- What a call did: its turns and its asks, in order.
-use Rattle.std.specs.Prelude.{◌≡◌, ℕ, ◌+◌, Bool, true, false, IsTrue, List, [], ◌∷◌, Option, None, Some, slice_index, slice_set}
+use Rattle.std.specs.Prelude.{◌≡◌, ℕ, ◌+◌, Bool, true, false, List, [], ◌∷◌, ◌++◌, Option, None, Some, slice_index, slice_set}
 use Rattle.call_plan.specs.Items.{Item, Replied, Told as Heard, Starved}
 use Rattle.call_plan.specs.Laws.{with_found}
 use Rattle.call_plan.specs.Runs.{Moment, after, begin}
@@ -10,7 +10,7 @@ use Rattle.call_plan.specs.declared.needs.Answered.TheVariants.{Refused}
 use Rattle.call_plan.specs.declared.needs.Request.{Request}
 use Rattle.hook_api.specs.Asked.{AskFacts}
 use Rattle.hook_api.specs.Counts.{capped}
-use Rattle.thread_cache.specs.Desks.{DeskFacts}
+use Rattle.call_plan.specs.Clients.{DeskFacts}
 use Rattle.deeds.specs.declared.deeds.Deed.{Deed}
 use Rattle.deeds.specs.declared.deeds.Doing.{Doing}
 use Rattle.deeds.specs.declared.deeds.Told.{Told}
@@ -69,6 +69,11 @@ pub record IsCall (c : ℕ) (had : DeskFacts) (request : Request) (dids : List D
   pub led : Led c (begin request had) None dids last
   pub ends : last.stage.next ≡ Ends answer
   pub leaves : last.desk ≡ has
+
+-- a whole call has one answer and leaves its client one thing, and nothing comes behind what it did
+abbrev pub CallsEndOnce : Type 0
+CallsEndOnce = (c : ℕ) (had has last : DeskFacts) (request : Request) (dids more : List Did) (answer other : Answered)
+    → IsCall c had request dids answer has → IsCall c had request (dids ++ more) other last → (more ≡ []) × (other ≡ answer) × (last ≡ has)
 
 -- ---- its asks
 

@@ -1,1 +1,2 @@
 pub mod Dids
+pub mod Reallocs

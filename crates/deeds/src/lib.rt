@@ -5,4 +5,4 @@ mod deeds;
 mod laws;
 
 pub use deeds::{Deed, Doing, Told};
-pub use laws::refusals_are_last;
+pub use laws::{calls_end_once, reallocs_leave, refusals_are_last};
