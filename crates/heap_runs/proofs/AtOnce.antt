@@ -4,7 +4,9 @@ use Rattle.std.specs.Prelude.{nat_lt, ◌^◌}
 use Rattle.size_classes.specs.Classes.{class_for}
 use Rattle.thread_cache.specs.declared.Held.{Held}
 use Rattle.thread_cache.specs.Caches.{cached_in}
-use Rattle.thread_cache.specs.Desks.{before_last, hit, hitting, holding, is_cacheable}
+use Rattle.call_plan.specs.Clients.{before_last, hit, hitting, holding, is_cacheable, swapped_back, swapped_back_of}
+use Rattle.call_plan.specs.Desks.{desk_closed, held_region, region_ended}
+use Rattle.call_plan.specs.Stages.{Ends}
 use Rattle.call_plan.specs.declared.needs.Answered.TheVariants.{Ok}
 use Rattle.call_plan.specs.declared.needs.Given.TheVariants.{Done as Finished, Region}
 use Rattle.call_plan.specs.declared.needs.Request.TheVariants.{Free, Malloc}
@@ -52,14 +54,22 @@ hit_class class desk region all is = by (is_cacheable class desk) is
         subst (λ (r : Held). r.class ≡ class) (get_or_from_slice_get (cached_in desk.cached class) (before_last class desk) region region is) (all (before_last class desk) region low)
     by false is = absurd (cc)
 
-pub malloc_once : (c size : ℕ) (desk has : DeskFacts) (region : Held) → All (λ (r : Held). r.class ≡ class_for size) (cached_in desk.cached (class_for size)) → nat_lt (2 ^ 35) size ≡ false → hit (class_for size) desk ≡ Some region
-    → has ≡ holding region (hitting (class_for size) desk) → IsCall c desk (Malloc size) [] (Ok (Region region.addr (class_for size))) has
-malloc_once c size desk has region all small is same = record {
-  last = begin (Malloc size) desk;
-  led = refl;
-  ends = rw small (rw is refl);
-  leaves = rw small (rw is (ap (λ r. holding r (hitting (class_for size) desk)) (ap (λ k. record { addr = region.addr; class = k; arena = region.arena }) (sym (hit_class (class_for size) desk region all is))) ∙ sym same));
-}
+-- once it has ended its client holds the region
+got_closed : (request : Request) (arena class addr : ℕ) (desk : DeskFacts) → desk.gained ≡ None → desk.swapped ≡ None → desk_closed request arena (Ends (Ok (Region addr class))) desk ≡ holding (held_region arena class addr) desk
+got_closed request arena class addr desk none own =
+    let now : DeskFacts = holding (held_region arena class addr) desk in
+    ap (λ gained. swapped_back false (region_ended gained (held_region arena class addr) desk)) none ∙ ap (λ swap. swapped_back_of swap false now) own
+
+pub malloc_once : (c size : ℕ) (desk has : DeskFacts) (region : Held) → All (λ (r : Held). r.class ≡ class_for size) (cached_in desk.cached (class_for size)) → desk.gained ≡ None → desk.swapped ≡ None → nat_lt (2 ^ 35) size ≡ false
+    → hit (class_for size) desk ≡ Some region → has ≡ holding region (hitting (class_for size) desk) → IsCall c desk (Malloc size) [] (Ok (Region region.addr (class_for size))) has
+malloc_once c size desk has region all none own small is same =
+    let left : DeskFacts = hitting (class_for size) desk in record {
+      last = begin (Malloc size) desk;
+      led = refl;
+      ends = rw small (rw is refl);
+      leaves = rw small (rw is (got_closed (Malloc size) region.arena (class_for size) region.addr left none own
+          ∙ ap (λ k. holding (held_region region.arena k region.addr) left) (sym (hit_class (class_for size) desk region all is)) ∙ sym same));
+    }
 
 -- ---- a free
 

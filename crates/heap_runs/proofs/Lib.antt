@@ -3,6 +3,7 @@ pub mod Histories
 pub mod Knowing
 pub mod Passing
 pub mod Turning
+pub mod Leaving
 pub mod Needing
 pub mod Making
 pub mod Asking
@@ -18,3 +19,4 @@ pub mod Parting
 pub mod AtOnce
 pub mod Apart
 pub mod Reading
+pub mod Counting

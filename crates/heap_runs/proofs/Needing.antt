@@ -60,14 +60,14 @@ named_hears desk call = grind arith
 pub named_ends : (desk : DeskFacts) (call : CallFacts) → ended_by (named_call desk call).stage.next ≡ ended_by call.stage.next
 named_ends desk call = grind arith
 
--- there is as much room for a region that the client comes to hold
-pub named_rooms : (room : ℕ) (desk : DeskFacts) (call call' : CallFacts) → named_call desk call' ≡ named_call desk call → HasRoomToHold desk.hand room call.stage.next → HasRoomToHold desk.hand room call'.stage.next
-named_rooms room desk call call' same has = aft desk call' (subst (λ (f : CallFacts). HasRoomToHold desk.hand room f.stage.next) (sym same) (fore desk call has))
+-- there is as much room for the regions that the client comes to hold
+pub named_rooms : (room : ℕ) (desk : DeskFacts) (call call' : CallFacts) → named_call desk call' ≡ named_call desk call → HasRoomToHold desk room call.stage.next → HasRoomToHold desk room call'.stage.next
+named_rooms room desk call call' same has = aft desk call' (subst (λ (f : CallFacts). HasRoomToHold desk room f.stage.next) (sym same) (fore desk call has))
   where
-    fore : (desk : DeskFacts) (call : CallFacts) → HasRoomToHold desk.hand room call.stage.next → HasRoomToHold desk.hand room (named_call desk call).stage.next
+    fore : (desk : DeskFacts) (call : CallFacts) → HasRoomToHold desk room call.stage.next → HasRoomToHold desk room (named_call desk call).stage.next
     fore desk call has = grind arith
 
-    aft : (desk : DeskFacts) (call : CallFacts) → HasRoomToHold desk.hand room (named_call desk call).stage.next → HasRoomToHold desk.hand room call.stage.next
+    aft : (desk : DeskFacts) (call : CallFacts) → HasRoomToHold desk room (named_call desk call).stage.next → HasRoomToHold desk room call.stage.next
     aft desk call has = grind arith
 
 -- the moment is the same

@@ -13,7 +13,7 @@ use Rattle.chunk_table.specs.declared.table.ChunkTable.{ChunkTable}
 use Rattle.recorded_arena.specs.Records.{Record, opening_record, opening_space}
 use Rattle.sits.specs.Arenas.{AreArenas, no_record, record_at}
 use Rattle.sits.specs.Clients.{mine_in}
-use Rattle.sits.specs.Sitting.{IsAtRest}
+use Rattle.sits.specs.Sitting.{IsAtRest, IsInClasses}
 use Rattle.sits.proofs.Indexes.{past}
 use Rattle.recorded_arena.proofs.Turning.{replayed_sound}
 use Rattle.heap_runs.specs.Ways.{known, state_of}
@@ -23,6 +23,7 @@ use Rattle.heap_runs.proofs.Knowing.{Known, known_all, known_at, not_together}
 record IsEmpty (m : Mine) : Type 0 where
   flights : m.flights ≡ []
   offers : m.offers ≡ []
+  trims : m.trims ≡ false
   regions : m.regions ≡ []
 
 is_among : (low n c : ℕ) → low ≤ c → c < low + n → is_in c (range_with_len low n) ≡ true
@@ -54,18 +55,21 @@ module _ (table : ChunkTable) (logs : Known) (none : (i : ℕ) → logs i ≡ []
       ]
     where
       at : (j : ℕ) → IsEmpty (mine c (opening_space j))
-      at j = elim (j == 0) as (λ v. IsEmpty (mine c (cond v first_space absent_space))) [ true ↦ record { flights = refl; offers = refl; regions = refl } | false ↦ record { flights = refl; offers = refl; regions = refl } ]
+      at j = elim (j == 0) as (λ v. IsEmpty (mine c (cond v first_space absent_space))) [ true ↦ record { flights = refl; offers = refl; trims = refl; regions = refl } | false ↦ record { flights = refl; offers = refl; trims = refl; regions = refl } ]
 
-  pub begin_rests : (c : ℕ) → c < 32 → IsAtRest false (known table logs) c (record { arena = 0; caches = false; cached = replicate 41 []; held = []; hand = None })
+  pub begin_rests : (c : ℕ) → c < 32 → IsAtRest false (known table logs) c (record { arena = 0; caches = false; cached = replicate 41 []; held = []; hand = None; gained = None; set = []; swapped = None })
   begin_rests c few = record {
     has = record {
       hands = λ i a k. record { within = omega arith; all = not_together };
       keyed = All-nil (λ (e : ℕ × Held). e.0 ≡ e.1.addr);
       lists = refl;
       classed = λ k. subst (All (λ (r : Held). r.class ≡ k)) (sym (none_cached 41 k)) (All-nil (λ (r : Held). r.class ≡ k));
+      places = All-nil IsInClasses;
       arena = omega arith;
       bound = ap (λ (r : Record). (mine c r.space).bound) (at_start 0 (omega arith)) ∙ is_among 0 32 c (omega arith) (omega (arith, few));
     };
-    idle = λ i. record { flights = (empty c i).flights; offers = (empty c i).offers };
+    idle = λ i. record { flights = (empty c i).flights; calm = ((empty c i).offers, (empty c i).trims) };
     empty = refl;
+    gained = refl;
+    own = refl;
   }

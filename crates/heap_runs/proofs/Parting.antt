@@ -1,17 +1,21 @@
 -- What is left of the arenas of a closed heap.
+use Rattle.std.specs.Prelude.{Option, true}
 use Rattle.heap_runs.proofs.Words.{arc_value, suc, zero, ◌≡◌, ◌∙◌, ◌+◌, ◌-◌, ◌<◌, ◌++◌, ◌∷◌, [], inl, inr, ℕ, List, Some, All, length, length-append, map, range_with_len, sym, refl, ap, subst, arith, take, slice_get, slice_get_within, Snapshot, Turn, ChunkTable, Deed, Facts, after_entry, opening_facts, replay_turns, state_of, replayed_sound}
 use Rattle.std.specs.Prelude.{◌/◌, ◌≤◌}
 use Rattle.std.specs.List.{count_by}
 use Rattle.chunk_table.specs.Rule.{owns}
 use Rattle.recorded_arena.specs.Records.{entries_of, opening_space}
-use Rattle.space_model.specs.Journal.{replay}
+use Rattle.space_model.specs.Journal.{all_stand, replay}
 use Rattle.chunk_table.specs.Tables.{accounts, share_of, IsSeatOf}
 use Rattle.chunk_table.specs.declared.table.ChunkBook.{ChunkBook}
 use Rattle.chunk_table.specs.declared.table.ChunkSeat.{ChunkSeat}
 use Rattle.hook_api.specs.declared.kept.Journal.{Journal}
 use Rattle.heap_runs.specs.declared.heaps.Ctx.{Ctx}
 use Rattle.heap_runs.specs.declared.heaps.SharedHeap.{SharedHeap}
-use Rattle.heap_runs.specs.Closes.{AreApart, AreClosed, AreLeft, AreParted, HasJournal, IsClosed, IsParted, is_page_of, seat_of_ctx}
+use Rattle.space_model.specs.declared.counts.Counts.{Counts}
+use Rattle.heap_shared.specs.Shared.{live_counts}
+use Rattle.heap_runs.proofs.Counting.{counts_are}
+use Rattle.heap_runs.specs.Closes.{AreApart, AreClosed, AreCounted, AreLeft, AreParted, counts_left, HasJournal, IsClosed, IsParted, is_page_of, seat_of_ctx}
 use Rattle.heap_runs.proofs.Columns.{all_at, get_more, get_some, lock_is}
 use Rattle.heap_runs.proofs.Apart.{only_one, page_meets}
 use Rattle.heap_runs.proofs.Passing.{same_element}
@@ -114,6 +118,20 @@ module _ (heap : SharedHeap) (ctxs : List Ctx) (states : List Facts) (journals :
           let is = closed_at k state.0 low state.1 in
           (part_at k state.0 j seat.0 state.1 here seat.1).index ∙ ap (λ (s : Facts). s.arena.index) is.replayed ∙ index_of (arc_value heap.table) k is.log ∙ omega arith
 
+  -- the counts are those of what the journals leave
+  pub counted : (counts : List (Option Counts)) → AreCounted states counts → counts ≡ map counts_left journals
+  counted counts are = counts_are journals counts (are.count ∙ sym parted.counts.0) each
+    where
+      each : (i : ℕ) (j : Journal) (c : Option Counts) → slice_get journals i ≡ Some j → slice_get counts i ≡ Some c → c ≡ counts_left j
+      each i j c here there =
+          let low = journal_low i j here in
+          let state = state_at i low in
+          let seat = seat_at i low in
+          let part = part_at i state.0 j seat.0 state.1 here seat.1 in
+          let place : length states - (i + 1) ≡ 31 - i = omega (arith, count) in
+          are.each i state.0 c (ap (slice_get states) place ∙ state.1) there
+          ∙ ap live_counts (part.replayed.space ∙ ap (λ n. replay (opening_space n) (entries_of state.0.arena.kept)) (sym part.index) ∙ ap (λ k. replay (opening_space j.index) (entries_of k)) (sym part.kept))
+
   -- the seats are seats of the heap's table
   pub seated : All (IsSeatOf (arc_value heap.table)) seats
   seated = all_at (IsSeatOf (arc_value heap.table)) seats (λ i seat there.
@@ -134,6 +152,8 @@ module _ (heap : SharedHeap) (ctxs : List Ctx) (states : List Facts) (journals :
         kept = part.kept;
         space = part.replayed.space ∙ ap (λ n. replay (opening_space n) (entries_of state.0.arena.kept)) (ap (λ (s : Facts). s.arena.index) (closed_at i state.0 low state.1).replayed ∙ index_of (arc_value heap.table) i (closed_at i state.0 low state.1).log)
             ∙ ap (λ k. replay (opening_space i) (entries_of k)) (sym part.kept);
+        stand = subst (λ k. all_stand (opening_space i) (entries_of k) ≡ true) (sym part.kept)
+            (subst (λ n. all_stand (opening_space n) (entries_of state.0.arena.kept) ≡ true) (ap (λ (s : Facts). s.arena.index) (closed_at i state.0 low state.1).replayed ∙ index_of (arc_value heap.table) i (closed_at i state.0 low state.1).log) part.replayed.stand);
         share = share_of seat.0;
         account = ap (λ l. slice_get l i) is ∙ get_map share_of seats i seat.0 seat.1;
         owned = part.owned;

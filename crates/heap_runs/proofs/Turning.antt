@@ -82,7 +82,7 @@ module _ (table : ChunkTable) (c : ℕ) (logs logs' : Known) (desk : DeskFacts) 
       (λ differ. ap (λ log. (state_of table i log).arena) (others i differ) ∙ sym (known_at table logs i low)
       ∙ sym (mid_else i differ) ∙ sym (get_or-set_other mid a i (record_after (record_at mid a) c (with_found found op) asked) no_record differ))
 
-  pub turned_arenas : AreArenas false new
+  turned_arenas : AreArenas false new
   turned_arenas = same_arenas then new then_all (known_all table logs') then_same (found_is mid a c found op asked mid_arenas there led.0.stands not_together)
 
   -- what it told is the reply there
@@ -90,16 +90,19 @@ module _ (table : ChunkTable) (c : ℕ) (logs logs' : Known) (desk : DeskFacts) 
   told_is r is = ap (λ (t : Told). t.reply) is ∙ ap (λ (d : Deed). reply_to met.arena.space (entry_of d.client d.op)) logged.is
       ∙ ap (λ (x : Record). reply_to x.space (entry_of c (with_found found op))) (sym mid_here)
 
-  pub turned_comes : (r : Told) → r ≡ (after_entry met e).1 → Comes false new c (after (moment_of call desk) (Replied r.reply))
+  turned_comes : (r : Told) → r ≡ (after_entry met e).1 → Comes false new c (after (moment_of call desk) (Replied r.reply))
   turned_comes r is =
       let at : Moment = after (moment_of call desk) (Replied r.reply) in
       let came = subst (λ (x : Reply). Comes false then c (after (moment_of call desk) (Replied x))) (sym (told_is r is)) led.1 in
       (came.0, same_seat then new then_all (known_all table logs') then_same c (seat_of c at) came.1)
 
   -- the box that it told is one of the shelf
-  pub turned_box : (r : Told) → r ≡ (after_entry met e).1 → r.box_no < 32
+  turned_box : (r : Told) → r ≡ (after_entry met e).1 → r.box_no < 32
   turned_box r is =
       let now : record_at new a ≡ (after_entry met e).0.arena = known_at table logs' a there ∙ ap (λ (s : Facts). s.arena) here in
       let sound : Sound (after_entry met e).0.arena.space = subst (λ (x : Record). Sound x.space) now (turned_arenas.sound a there) in
       let same : r.box_no ≡ (after_entry met e).0.arena.space.box_no = ap (λ (t : Told). t.box_no) is in
       let low = sound.box in omega (arith, low, same)
+
+  pub turn_leaves : (r : Told) → r ≡ (after_entry met e).1 → AreArenas false new × (r.box_no < 32) × Comes false new c (after (moment_of call desk) (Replied r.reply))
+  turn_leaves r is = (turned_arenas, turned_box r is, turned_comes r is)

@@ -17,14 +17,15 @@ pub use mathlib.Core.Logic.{dite}
 pub use native.Mathlib.Decide.{ℕ_discrete}
 pub use Rattle.arena_core.specs.Arenas.{entry_of, opens, room_of}
 pub use Rattle.atomic_table.specs.Seated.{TableId}
-pub use Rattle.call_plan.proofs.Beginning.{begins-know}
-pub use Rattle.call_plan.proofs.Naming.{begins_named, named_room}
+pub use Rattle.call_plan.proofs.Credits.{begin-is_call}
+pub use Rattle.call_plan.proofs.Naming.{begins_named}
 pub use Rattle.call_plan.proofs.Standing.{wants-stand}
 pub use Rattle.call_plan.specs.Calls.{CallFacts, HasRoomToHold, moment_at, moment_of, named_call, started}
+pub use Rattle.call_plan.specs.Desks.{meant, ready}
 pub use Rattle.call_plan.specs.Items.{Item, Replied, Told as Heard, Starved}
 pub use Rattle.call_plan.specs.Knows.{Knows}
-pub use Rattle.call_plan.specs.Laws.{IsInRange, KnowsNext, Stands as StandsWanted, with_found}
-pub use Rattle.call_plan.specs.Needs.{IsGiving, NeedIs, NeedsWant, named}
+pub use Rattle.call_plan.specs.Laws.{IsInRange, Stands as StandsWanted, with_found}
+pub use Rattle.call_plan.specs.Needs.{IsGiving, IsPointOrEnd, NeedIs, NeedsWant, named}
 pub use Rattle.call_plan.specs.Reads.{ended_by, heard_next}
 pub use Rattle.call_plan.specs.Runs.{Moment, after, begin, begin_stage}
 pub use Rattle.call_plan.specs.Stages.{Ends, Go, Next, Point, Stage, Turns}
@@ -58,7 +59,6 @@ pub use Rattle.recorded_arena.specs.Records.{Record, record_after}
 pub use Rattle.sits.proofs.Begins.{starts-sit}
 pub use Rattle.sits.proofs.Clients.{found_is, turns-lead_on}
 pub use Rattle.sits.proofs.Indexes.{at_or_else, past}
-pub use Rattle.sits.proofs.Settling.{has_owns, is_ready}
 pub use Rattle.sits.proofs.Turns.{asks-sit, own-sits, starves-sit, turns-sit}
 pub use Rattle.sits.specs.Arenas.{AreArenas, after_found, no_record, record_at, reply_in, room_in}
 pub use Rattle.sits.specs.Clients.{CanTake, mine_in}
@@ -72,7 +72,7 @@ pub use Rattle.space_model.specs.declared.entries.Op.{Op}
 pub use Rattle.space_model.specs.declared.entries.Op.TheVariants.{GrowDone, OfferDone}
 pub use Rattle.space_model.specs.declared.entries.Reply.{Reply}
 pub use Rattle.space_model.specs.declared.spaces.Space.{Space}
-pub use Rattle.thread_cache.specs.Desks.{DeskFacts}
+pub use Rattle.call_plan.specs.Clients.{DeskFacts}
 pub use Rattle.turn_lock.specs.History.{entries, entries_by, replay_turns, turn_of, IsLegal}
 pub use Rattle.turn_lock.specs.Locks.{first, number, seen, spare, IsPassOf, Turned}
 pub use Rattle.turn_lock.specs.declared.lock.Pass.{Pass}

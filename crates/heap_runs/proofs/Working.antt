@@ -2,7 +2,7 @@
 use Rattle.std.proofs.Common.{◌≡◌, ◌⊎◌, inl, inr, ℕ, List, [], ◌∷◌, ◌++◌, sym, refl, ap, ◌∙◌, subst, append_assoc, append-nil, arith, length, All, Result, Ok, Err, IfOk}
 use Rattle.std.proofs.lemmas.List.{map-append}
 use Rattle.std.proofs.lemmas.Option.{slice_get_within}
-use Rattle.thread_cache.specs.Desks.{DeskFacts}
+use Rattle.call_plan.specs.Clients.{DeskFacts}
 use Rattle.call_plan.specs.declared.needs.Answered.{Answered}
 use Rattle.call_plan.specs.declared.needs.Request.{Request}
 use Rattle.hook_api.specs.declared.shared.SharedShelf.{SharedShelf}

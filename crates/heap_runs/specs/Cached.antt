@@ -3,7 +3,7 @@ use Rattle.std.specs.Prelude.{◌≡◌, ℕ, ◌^◌, nat_lt, [], Option, None,
 use Rattle.atomic_table.specs.Seated.{TableId}
 use Rattle.size_classes.specs.Classes.{class_for}
 use Rattle.thread_cache.specs.declared.Held.{Held}
-use Rattle.thread_cache.specs.Desks.{DeskFacts, has_slot, held_at, hit, is_cacheable}
+use Rattle.call_plan.specs.Clients.{DeskFacts, has_slot, held_at, hit, is_cacheable}
 use Rattle.call_plan.specs.declared.needs.Answered.{Answered}
 use Rattle.call_plan.specs.declared.needs.Answered.TheVariants.{Ok}
 use Rattle.call_plan.specs.declared.needs.Given.TheVariants.{Done as Finished, Region}

@@ -1,5 +1,5 @@
 -- What a heap leaves.
-use Rattle.std.specs.Prelude.{◌≡◌, ◌≢◌, ◌+◌, ◌-◌, ℕ, ◌<◌, ◌≤◌, Bool, true, List, [], Some, length, map, slice_get}
+use Rattle.std.specs.Prelude.{◌≡◌, ◌≢◌, ◌+◌, ◌-◌, ℕ, ◌<◌, ◌≤◌, Bool, true, List, [], Option, Some, length, map, slice_get}
 use Rattle.std.specs.List.{count_by, list_any}
 use Rattle.std.specs.Arc.{arc_value}
 use Rattle.std.specs.declared.snapshot.Snapshot.{Snapshot}
@@ -15,14 +15,15 @@ use Rattle.chunk_table.specs.declared.view.Taken.{Taken}
 use Rattle.heap_shared.specs.Claims.{HasFound, OwnsMet, founds, is_met}
 use Rattle.hook_api.specs.Kept.{KeptFacts}
 use Rattle.recorded_arena.specs.Records.{IsReplayed, entries_of, opening_space}
-use Rattle.space_model.specs.Journal.{replay}
+use Rattle.space_model.specs.Journal.{all_stand, replay}
 use Rattle.space_model.specs.Span.{has_page}
+use Rattle.space_model.specs.declared.counts.Counts.{Counts}
 use Rattle.space_model.specs.declared.spaces.Space.{Space}
 use Rattle.space_model.specs.Sound.{Sound}
 use Rattle.hook_api.specs.declared.kept.Journal.{Journal}
 use Rattle.hook_api.specs.declared.seat.AskSeat.{AskSeat}
 use Rattle.heap_runs.specs.declared.closes.Closed.{Closed}
-use Rattle.heap_shared.specs.Shared.{Facts, Logs, after_entry, opening_facts, snap}
+use Rattle.heap_shared.specs.Shared.{Facts, Logs, after_entry, live_counts, opening_facts, snap}
 use Rattle.heap_runs.specs.declared.heaps.Ctx.{Ctx}
 use Rattle.heap_runs.specs.declared.heaps.SharedHeap.{SharedHeap}
 use Rattle.heap_runs.specs.Heaps.{turns_of}
@@ -72,9 +73,18 @@ pub record AreParted (states : List Facts) (journals : List Journal) (seats : Li
   pub counts : (length journals ≡ length states) × (length seats ≡ length states)
   pub each : (k : ℕ) (state : Facts) (journal : Journal) (seat : ChunkSeat) → slice_get states (length states - (k + 1)) ≡ Some state → slice_get journals k ≡ Some journal → slice_get seats k ≡ Some seat → IsParted state journal seat
 
+-- The counts of arenas, the last one first, by their indexes, where they are live.
+pub record AreCounted (states : List Facts) (counts : List (Option Counts)) : Type 0 where
+  pub count : length counts ≡ length states
+  pub each : (k : ℕ) (state : Facts) (c : Option Counts) → slice_get states (length states - (k + 1)) ≡ Some state → slice_get counts k ≡ Some c → c ≡ live_counts state.arena.space
+
 -- the space that a journal leaves of the arena with an index
 abbrev pub space_left : ℕ → List KeptFacts → Space
 space_left i kept = replay (opening_space i) (entries_of kept)
+
+-- the counts of what a journal leaves of its arena, where that is live
+abbrev pub counts_left : Journal → Option Counts
+counts_left journal = live_counts (space_left journal.index journal.kept)
 
 -- whether an extent of a space has a page
 abbrev pub is_page_of : ℕ → Space → Bool
@@ -84,7 +94,8 @@ is_page_of page s = list_any (λ p. has_page page p.span) s.parts
 abbrev pub AreApart : List Journal → Type 0
 AreApart journals = (page i j : ℕ) (one other : Journal) → slice_get journals i ≡ Some one → slice_get journals j ≡ Some other → is_page_of page (space_left i one.kept) ≡ true → is_page_of page (space_left j other.kept) ≡ true → i ≡ j
 
--- What is left of the arena with an index: a journal that has the entries of its history, and its account in the book of chunks. It
+-- What is left of the arena with an index: a journal that has the entries of its history, each of which may stand where it comes, and
+-- its account in the book of chunks. It
 -- owned at the end just the chunks that its extents meet, and the chunks that its entries found in other arenas are those that it failed
 -- to claim, in order.
 pub record HasJournal (heap : SharedHeap) (ctxs : List Ctx) (book : ChunkBook) (i : ℕ) (journal : Journal) : Type 0 where
@@ -92,6 +103,7 @@ pub record HasJournal (heap : SharedHeap) (ctxs : List Ctx) (book : ChunkBook) (
   pub closed : IsClosed heap ctxs i state
   pub kept : journal.kept ≡ state.arena.kept
   pub space : state.arena.space ≡ space_left i journal.kept
+  pub stand : all_stand (opening_space i) (entries_of journal.kept) ≡ true
   pub share : Share
   pub account : slice_get (accounts book) i ≡ Some share
   pub owned : (chunk : ℕ) → owns chunk share ≡ is_met chunk state.arena.space
@@ -99,10 +111,12 @@ pub record HasJournal (heap : SharedHeap) (ctxs : List Ctx) (book : ChunkBook) (
   pub sound : Sound state.arena.space
 
 -- What a closed heap leaves: the journals of its 32 arenas and the chunks of each, of which none is owned by two, so that no page is in
--- the spaces that two journals leave; and the seats of all contexts at the shared shelf.
+-- the spaces that two journals leave; the seats of all contexts at the shared shelf; and of each arena the counts of the space that its
+-- journal leaves, where that is live.
 pub record HasClosed (heap : SharedHeap) (ctxs : List Ctx) (left : Closed) : Type 0 where
   pub count : length left.journals ≡ 32
   pub each : (i : ℕ) (journal : Journal) → slice_get left.journals i ≡ Some journal → HasJournal heap ctxs left.chunks i journal
   pub once : (chunk : ℕ) → count_by (owns chunk) (accounts left.chunks) ≤ 1
   pub apart : AreApart left.journals
   pub seats : left.seats.items ≡ map seat_of_ctx ctxs
+  pub counts : left.counts.items ≡ map counts_left left.journals

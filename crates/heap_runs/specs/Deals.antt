@@ -14,7 +14,7 @@ use Rattle.deeds.specs.declared.deeds.Told.{Told}
 use Rattle.heap_shared.specs.Shared.{Facts, Owned, opening_facts}
 use Rattle.heap_shared.specs.declared.machine.ArenaTurns.{ArenaTurns}
 use Rattle.hook_api.specs.declared.seat.AskSeat.{AskSeat}
-use Rattle.thread_cache.specs.Desks.{DeskFacts}
+use Rattle.call_plan.specs.Clients.{DeskFacts}
 use Rattle.heap_runs.specs.Ways.{AreWays, known}
 use Rattle.heap_runs.specs.declared.heaps.Ctx.{Ctx}
 use Rattle.heap_runs.specs.declared.heaps.SharedHeap.{SharedHeap}
@@ -65,7 +65,7 @@ pub record IsAdded (table : ChunkTable) (clients : ℕ) (old_locks new_locks : L
 
 -- what a client has that has done nothing yet
 abbrev pub no_desk : DeskFacts
-no_desk = record { arena = 0; caches = false; cached = replicate 41 []; held = []; hand = None }
+no_desk = record { arena = 0; caches = false; cached = replicate 41 []; held = []; hand = None; gained = None; set = []; swapped = None }
 
 -- a context that has no pass yet
 pub record IsFresh (j : ℕ) (own : AskSeat) (ctx : Ctx) : Type 0 where

@@ -55,7 +55,7 @@ pub record MayCall (shelf : TableId) (heap : SharedHeap) (ctx : Ctx) : Type 0 wh
 pub record Stands (heap : SharedHeap) (ctx : Ctx) (call : CallFacts) : Type 0 where
   pub client : call.client ≡ ctx.client
   pub comes : Comes false (known (arc_value heap.table) (log_of ctx)) ctx.client (moment_at call ctx.desk.facts)
-  pub room : HasRoomToHold ctx.desk.facts.hand ctx.desk.room call.stage.next
+  pub room : HasRoomToHold ctx.desk.facts ctx.desk.room call.stage.next
 
 -- an ask is planned only where the shelf has had a plan of that box and kind
 abbrev pub HasPlan : {H : Type 0} → SharedShelf H → AskFacts → Type 0

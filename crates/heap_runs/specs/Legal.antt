@@ -6,7 +6,7 @@ use Rattle.chunk_table.specs.declared.table.ChunkBook.{ChunkBook}
 use Rattle.chunk_table.specs.declared.table.ChunkTable.{ChunkTable}
 use Rattle.hook_api.specs.declared.kept.Journal.{Journal}
 use Rattle.heap_shared.specs.Shared.{snap}
-use Rattle.thread_cache.specs.Desks.{DeskFacts}
+use Rattle.call_plan.specs.Clients.{DeskFacts}
 use Rattle.call_plan.specs.declared.needs.Request.{Request}
 use Rattle.hook_api.specs.declared.shared.SharedShelf.{SharedShelf}
 use Rattle.deeds.specs.declared.deeds.Deed.{Deed}

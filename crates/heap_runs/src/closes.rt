@@ -3,7 +3,7 @@ ghost use Rattle.std.specs.Prelude.{◌≡◌, ◌<◌, ◌≤◌, ◌+◌, ℕ,
 ghost use Rattle.std.specs.List.{All};
 ghost use Rattle.atomic_table.specs.Seated.{TableId};
 ghost use Rattle.turn_lock.specs.Locks.{passes};
-ghost use Rattle.heap_runs.specs.Closes.{AreClosed, AreLeft, AreParted, IsLeft, HasClosed, seat_of_ctx};
+ghost use Rattle.heap_runs.specs.Closes.{AreClosed, AreCounted, AreLeft, AreParted, IsLeft, HasClosed, seat_of_ctx};
 ghost use Rattle.heap_runs.specs.Columns.{IsColumn};
 ghost use Rattle.heap_runs.specs.Heaps.{MayCall};
 ghost use Rattle.heap_runs.specs.Ways.{AreWays};
@@ -13,6 +13,7 @@ use crate::heaps::{Ctx, SharedHeap};
 use chunk_table::{ChunkBook, ChunkSeats};
 use heap_shared::{ArenaTurns, SharedArena};
 use hook_api::{AskSeats, Journal, Journals};
+use space_model::Counts;
 use std::alloc::{AllocError as NoMemory, Global};
 use turn_lock::{Pass, Passes};
 
@@ -25,6 +26,8 @@ pub struct Closed {
     pub chunks: ChunkBook,
     /// The clients' seats at the shared shelf, in the order of their contexts.
     pub seats: AskSeats,
+    /// The counts of the 32 arenas at the end, by index, where they are live.
+    pub counts: Vec<Option<Counts>>,
 }
 
 impl Ctx {
@@ -61,6 +64,17 @@ fn column(
         others.push(ctxs[j].take_pass(arena));
     }
     Ok((first, others))
+}
+
+/// The counts of arenas, of which the last one comes first, by index, where they are live.
+fn counts_of(alloc: Global, states: &[SharedArena]) -> Result<Vec<Option<Counts>>, NoMemory>
+    ensures { IfOk result (λ counts. AreCounted states.now counts.items) }
+{
+    let mut counts = Vec::with_capacity(alloc, states.len())?;
+    for i in 0..states.len() {
+        counts.push_reserved(states[states.len() - 1 - i].counts());
+    }
+    Ok(counts)
 }
 
 /// The journals of arenas, of which the last one comes first, and their seats of the chunk table.
@@ -118,12 +132,14 @@ impl SharedHeap {
         let mut ctxs = ctxs;
         let table = self.table.clone()?;
         let states = self.close_locks(alloc, &mut ctxs)?;
+        let counts = counts_of(alloc, states.as_slice())?;
         let (journals, chunk_seats) = part(alloc, states)?;
         let seats = seats_of(alloc, ctxs)?;
         Ok(Closed {
             journals: Journals::from_vec(journals),
             chunks: table.gather(chunk_seats),
             seats,
+            counts,
         })
     }
 }

@@ -1,13 +1,14 @@
 //! A heap that threads share, and what one client has of it.
+ghost use Rattle.std.specs.Prelude.{◌≡◌};
 ghost use Rattle.std.specs.Arc.{arc_value};
 ghost use Rattle.heap_runs.specs.Ways.{AreLocks};
 
+use call_plan::Desk;
 use chunk_table::ChunkTable;
 use heap_shared::ArenaTurns;
 use hook_api::AskSeat;
 use std::alloc::Global;
 use std::sync::Arc;
-use thread_cache::Desk;
 use turn_lock::{Pass, TurnLock};
 
 /// The box that was given to each arena, by its index, where it was created.
@@ -32,4 +33,20 @@ pub struct Ctx {
     pub(crate) desk: Desk,
     pub(crate) passes: Vec<Pass<ArenaTurns>>,
     pub(crate) seat: AskSeat,
+}
+
+impl Ctx {
+    /// The client's number.
+    pub fn client(&self) -> u32
+        ensures { result ≡ self.now.client }
+    {
+        self.client
+    }
+
+    /// What the client has.
+    pub fn desk(&self) -> &Desk
+        ensures { result.now ≡ self.now.desk }
+    {
+        &self.desk
+    }
 }

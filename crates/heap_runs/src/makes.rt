@@ -9,12 +9,12 @@ ghost use Rattle.chunk_table.specs.Tables.{failed, owned, IsSeatOf};
 ghost use Rattle.heap_runs.specs.Deals.{AreFresh, AreGiven, IsAdded, IsNew, IsNext};
 
 use crate::heaps::{Ctx, SharedHeap};
+use call_plan::Desk;
 use chunk_table::{ChunkSeat, ChunkTable};
 use heap_shared::{ArenaTurns, SharedArena};
 use hook_api::AskSeats;
 use std::alloc::{AllocError as NoMemory, Global};
 use std::sync::Arc;
-use thread_cache::Desk;
 use turn_lock::{Pass, TurnLock};
 
 impl Ctx {

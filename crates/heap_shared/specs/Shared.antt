@@ -1,7 +1,10 @@
 -- An arena under a turn lock, and what belongs to one client of it.
-use Rattle.std.specs.Prelude.{◌≡◌, ◌≢◌, ℕ, ◌<◌, [], Option, IsTrue, false, length}
+use Rattle.std.specs.Prelude.{◌≡◌, ◌≢◌, ℕ, ◌<◌, [], Option, None, Some, IsTrue, false, length, if◌then◌else◌}
 use Rattle.std.specs.declared.snapshot.Snapshot.{Snapshot}
+use Rattle.space_model.specs.declared.counts.Counts.{Counts}
 use Rattle.space_model.specs.declared.spaces.Space.{Space}
+use Rattle.space_model.specs.Counts.{counts_of}
+use Rattle.space_model.specs.Stepped.{is_live}
 use Rattle.space_model.specs.Own.{Mine, mine}
 use Rattle.space_model.specs.Sound.{Sound}
 use Rattle.space_model.specs.Step.{space_after, reply_to, stands}
@@ -79,3 +82,7 @@ nothing_owned = record { client = 0; has = record { flights = []; offers = []; r
 -- an arena at the start
 abbrev pub opening_facts : ℕ → ChunkTable → Facts
 opening_facts index table = record { arena = opening_record index; table = table }
+
+-- the counts of an arena that is live
+abbrev pub live_counts : Space → Option Counts
+live_counts s = if is_live s.life then Some (counts_of s) else None

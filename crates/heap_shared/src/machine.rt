@@ -5,14 +5,14 @@ ghost use Rattle.chunk_table.specs.Tables.{failed, owned, IsSeatOf};
 ghost use Rattle.arena_core.specs.Arenas.{opens};
 ghost use Rattle.heap_shared.specs.Claims.{HasFound, OwnsMet};
 ghost use Rattle.recorded_arena.specs.Records.{IsReplayed};
-ghost use Rattle.heap_shared.specs.Shared.{Logs, MayStand, after_entry, owned_by, opening_facts};
+ghost use Rattle.heap_shared.specs.Shared.{Logs, MayStand, after_entry, live_counts, owned_by, opening_facts};
 
 use crate::claims::Claims;
 use chunk_table::{ChunkSeat, ChunkTable};
 use deeds::{Deed, Doing, Told};
 use hook_api::Journal;
 use recorded_arena::Recorded;
-use space_model::Reply;
+use space_model::{Counts, Life, Reply};
 use std::alloc::{AllocError as NoMemory, Global};
 use std::marker::Model;
 use std::snapshot::Snapshot;
@@ -70,6 +70,17 @@ impl SharedArena {
         let SharedArena { recorded, claims } = self;
         let Claims { seat, .. } = claims;
         (recorded.into_journal(), seat)
+    }
+
+    /// The counts of the arena, where it is live. They are kept and not summed up anew.
+    pub fn counts(&self) -> Option<Counts>
+        ensures { result ≡ live_counts self.now.arena.space }
+    {
+        let arena = self.recorded.arena();
+        match arena.life() {
+            Life::Live => Some(arena.counts()),
+            _ => None,
+        }
     }
 
     /// The step of an operation that may stand by what belongs to its client. The chunks that it takes are claimed in it,

@@ -1,3 +1,6 @@
 pub mod Unreads
 pub mod Places
 pub mod Walking
+pub mod Tallies
+pub mod Shifting
+pub mod Pairs

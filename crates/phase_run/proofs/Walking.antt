@@ -7,7 +7,7 @@ use Rattle.call_plan.specs.declared.needs.Answered.TheVariants as answered
 use Rattle.call_plan.specs.declared.needs.Given.TheVariants as given
 use Rattle.call_plan.specs.declared.needs.Request.{Request}
 use Rattle.call_plan.specs.declared.needs.Request.TheVariants as request
-use Rattle.thread_cache.specs.Desks.{DeskFacts, held_at}
+use Rattle.call_plan.specs.Clients.{DeskFacts, held_at}
 use Rattle.thread_cache.specs.declared.Held.{Held}
 use Rattle.trace_phase.specs.Apart.{AllApart, AreApart, names_it}
 use Rattle.trace_phase.specs.declared.parts.PhaseCall.{PhaseCall}

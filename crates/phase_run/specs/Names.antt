@@ -4,6 +4,8 @@ use Rattle.std.specs.Map.{lookup}
 use Rattle.std.specs.Option.{unwrap_or}
 use Rattle.std.specs.Str.{bytes_eq}
 use Rattle.indexmap.specs.IndexMap.{insert_entry}
+use Rattle.trace_phase.specs.Parts.{call_name}
+use Rattle.trace_phase.specs.declared.parts.PhaseCall.{PhaseCall}
 use Rattle.phase_run.specs.declared.names.Place.{Place}
 
 -- where a name stands for that was never bound: address 0 of arena 0
@@ -27,3 +29,12 @@ learnt others names (Some name) = named names name (place_in others name)
 abbrev pub merged : List (List ℕ × Place) → List (List ℕ × Place) → List (List ℕ × Place)
 merged names [] = names
 merged names ((name, place) ∷ own) = merged (named names name place) own
+
+-- some names, with those that some calls have, each with where its region lies among others
+abbrev pub known_from : List (List ℕ × Place) → List (List ℕ × Place) → List PhaseCall → List (List ℕ × Place)
+known_from others names [] = names
+known_from others names (call ∷ calls) = known_from others (learnt others names (call_name call)) calls
+
+-- the names that some calls have, each with where its region lies among others
+abbrev pub known_to : List (List ℕ × Place) → List PhaseCall → List (List ℕ × Place)
+known_to others calls = known_from others [] calls

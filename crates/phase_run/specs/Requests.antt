@@ -11,7 +11,7 @@ use Rattle.trace_phase.specs.declared.parts.PhaseCall.{PhaseCall}
 use Rattle.trace_phase.specs.declared.parts.PhaseCall.TheVariants.{Malloc, Memalign, Free, Publish, Take, Flush, Purge, Decay}
 use Rattle.trace_phase.specs.declared.parts.SettingCall.{SettingCall}
 use Rattle.trace_phase.specs.declared.parts.SettingCall.TheVariants.{Create, Time, Bind, Cache}
-use Rattle.thread_cache.specs.Desks.{DeskFacts, held_at}
+use Rattle.call_plan.specs.Clients.{DeskFacts, held_at}
 use Rattle.thread_cache.specs.declared.Held.{Held}
 use Rattle.phase_run.specs.declared.names.Place.{Place}
 use Rattle.phase_run.specs.Names.{named, place_in}

@@ -4,7 +4,7 @@ use Rattle.std.specs.Prelude.{◌≡◌, ℕ, true, List, [], ◌∷◌, count_b
 use Rattle.std.specs.List.{list_any}
 use Rattle.call_plan.specs.declared.needs.Answered.{Answered}
 use Rattle.call_plan.specs.declared.needs.Request.{Request}
-use Rattle.thread_cache.specs.Desks.{DeskFacts}
+use Rattle.call_plan.specs.Clients.{DeskFacts}
 use Rattle.trace_phase.specs.Apart.{names_it}
 use Rattle.trace_phase.specs.declared.parts.PhaseCall.{PhaseCall}
 use Rattle.trace_phase.specs.declared.parts.Work.{Work}

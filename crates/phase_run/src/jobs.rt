@@ -1,6 +1,7 @@
 //! What a worker does in a phase.
 
 ghost use Rattle.std.specs.Prelude.{◌≡◌, IfOk};
+ghost use Rattle.phase_run.specs.Names.{known_to};
 ghost use Rattle.phase_run.specs.Walks.{AgreeOn};
 
 use crate::names::Names;
@@ -29,7 +30,8 @@ impl Job {
         ensures client { IfOk result (λ job. job.client ≡ work.client) }
         ensures moment { IfOk result (λ job. job.moment ≡ moment) }
         ensures calls { IfOk result (λ job. job.calls ≡ work.calls) }
-        ensures names { IfOk result (λ job. AgreeOn work.calls job.names names.now) }
+        ensures names { IfOk result (λ job. job.names ≡ known_to names.now work.calls) }
+        ensures agree { IfOk result (λ job. AgreeOn work.calls job.names names.now) }
     {
         let own = names.for_calls(alloc, work.calls.as_slice())?;
         let Work { client, calls } = work;

@@ -2,7 +2,7 @@
 
 ghost use Rattle.std.specs.Prelude.{◌≡◌, [], IfOk, OnOk, OnErr};
 ghost use Rattle.trace_phase.specs.Parts.{call_name};
-ghost use Rattle.phase_run.specs.Names.{learnt, merged, named, place_in};
+ghost use Rattle.phase_run.specs.Names.{known_to, learnt, merged, named, place_in};
 ghost use Rattle.phase_run.specs.Walks.{AgreeOn};
 
 use indexmap::IndexMap;
@@ -78,7 +78,8 @@ impl Names {
 
     /// Those of the names that some calls have, each with where its region lies here.
     pub fn for_calls(&self, alloc: Global, calls: &[PhaseCall]) -> Result<Names, NoMemory>
-        ensures { IfOk result (λ own. AgreeOn calls.now own self.now) }
+        ensures known { IfOk result (λ own. own ≡ known_to self.now calls.now) }
+        ensures agree { IfOk result (λ own. AgreeOn calls.now own self.now) }
     {
         let mut own = Names::new(alloc);
         for call in calls {

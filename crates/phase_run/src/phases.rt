@@ -1,6 +1,8 @@
 //! The phases of a trace, all of which is read before anything is done.
 
 ghost use Rattle.std.specs.Prelude.{◌≡◌, ◌≤◌, Some, true, IfErr, IfOk, IfSome, OnOk};
+ghost use Rattle.std.specs.List.{AllByRecursion};
+ghost use Rattle.trace_phase.specs.Limits.{IsPartWithinLimits};
 ghost use Rattle.edge_io.specs.Bytes.{Rose};
 ghost use Rattle.line_reader.specs.Lines.{lines_of};
 ghost use Rattle.report_text.specs.declared.causes.Cause.TheVariants.{Cut};
@@ -12,6 +14,7 @@ use edge_io::Source;
 use report_text::Cause;
 use space_model::Seq;
 use std::alloc::Global;
+use trace_phase::laws::parts_keep_limits;
 use trace_phase::{PhaseCause, PhaseFault, Phases};
 
 impl From<PhaseFault> for Unread {
@@ -41,12 +44,14 @@ impl From<PhaseFault> for Unread {
 /// `NoMemory` comes only where memory was wanting.
 pub fn read_phases<S: Source>(alloc: Global, source: &mut S) -> Result<Phases, Unread>
     ensures come { IfOk result (λ phases. IfSome (S.left source.old) (λ input. outcome (reading (lines_of input)) ≡ Come phases)) }
+    ensures limits { IfOk result (λ phases. AllByRecursion IsPartWithinLimits phases.parts) }
     ensures ended { OnOk result (S.ended source.new ≡ true) }
     ensures bad { IfErr result (λ unread. IfBad unread (λ line cause. IfSome (S.left source.old) (λ input. outcome (reading (lines_of input)) ≡ BadAt line (Some cause)))) }
     ensures cut { IfErr result (λ unread. IfBad unread (λ line cause. cause ≡ Cut → S.ended source.new ≡ true)) }
     ensures fault { IfErr result (λ unread. unread ≡ ReadFault → Rose (S.faults source.old) (S.faults source.new)) }
     ensures counts { S.faults source.old ≤ S.faults source.new }
 {
+    parts_keep_limits();
     let mut lines = Seq::new(alloc);
     match read_lines(alloc, source, &mut lines) {
         Ok(()) => Ok(Phases::check(alloc, lines)?),

@@ -5,9 +5,9 @@ ghost use Rattle.call_plan.specs.Laws.{IsInRange};
 ghost use Rattle.phase_run.specs.Requests.{IsSettingInRange, names_after, place_of, request_of, setting_request};
 
 use crate::names::{Names, Place};
-use call_plan::{Answered, Given, Request};
+use call_plan::{Answered, Desk, Given, Request};
 use std::alloc::{AllocError as NoMemory, Global};
-use thread_cache::{Desk, Held};
+use thread_cache::Held;
 use trace_phase::{PhaseCall, SettingCall};
 use trace_text::Name;
 

@@ -2,7 +2,7 @@
 
 ghost use Rattle.std.specs.Prelude.{◌≡◌};
 ghost use Rattle.phase_run.specs.Requests.{is_failed};
-ghost use Rattle.phase_run.specs.Tally.{added, no_answers, tallied};
+ghost use Rattle.phase_run.specs.Tally.{IsCapped, added, no_answers, tallied};
 
 use call_plan::Answered;
 
@@ -49,5 +49,13 @@ impl Tally {
     {
         self.calls = self.calls.saturating_add(other.calls);
         self.failed = self.failed.saturating_add(other.failed);
+    }
+
+    /// Tells that both counts are at most the greatest `u64`.
+    pub(crate) fn fits(&self)
+        ensures { IsCapped self.now }
+    {
+        let _calls = self.calls;
+        let _failed = self.failed;
     }
 }

@@ -185,3 +185,72 @@ fn a_client_calls_two_arenas(rt: HostRuntime) -> Result<(), Fail> {
     is_done(&rt, heap.flush(&rt, alloc, &shelf, &mut ctx));
     Ok(())
 }
+
+/// The address of the region that a call gave.
+fn region_of(rt: &impl Abort, answer: Answered) -> u64 {
+    match answer {
+        Answered::Ok(Given::Region { addr, .. }) => addr,
+        _ => panic!(rt; "no region was given"),
+    }
+}
+
+#[test]
+fn a_region_is_resized_where_it_is(rt: HostRuntime) -> Result<(), Fail> {
+    let alloc = rt.alloc();
+    let Trial {
+        shelf,
+        heap,
+        mut ctxs,
+    } = share(alloc, rising(alloc)?, 1)?;
+    let Some(mut ctx) = last(&shelf, &heap, &mut ctxs) else {
+        panic!(rt; "there is a client")
+    };
+    let addr = region_of(&rt, heap.malloc(&rt, alloc, &shelf, &mut ctx, 20000));
+    let widen = Request::Realloc { addr, size: 40960 };
+    let wider = heap.call(&rt, alloc, &shelf, &mut ctx, &widen);
+    let cut = Request::Realloc { addr, size: 16384 };
+    let narrower = heap.call(&rt, alloc, &shelf, &mut ctx, &cut);
+    assert_eq!(rt;
+        (region_of(&rt, wider), region_of(&rt, narrower)),
+        (addr, addr)
+    );
+    let Ok(counts) = heap.counts(&rt, &shelf, &mut ctx, 0) else {
+        panic!(rt; "arena 0 is live")
+    };
+    assert_eq!(rt; counts.allocated, 16384);
+    Ok(())
+}
+
+#[test]
+fn an_explicit_cache_gives_its_region_again(rt: HostRuntime) -> Result<(), Fail> {
+    let alloc = rt.alloc();
+    let Trial {
+        shelf,
+        heap,
+        mut ctxs,
+    } = share(alloc, rising(alloc)?, 1)?;
+    let Some(mut ctx) = last(&shelf, &heap, &mut ctxs) else {
+        panic!(rt; "there is a client")
+    };
+    let malloc = Request::MallocIn {
+        slot: 0,
+        size: 20000,
+    };
+    let without = heap.call(&rt, alloc, &shelf, &mut ctx, &malloc);
+    assert!(rt; matches!(without, Answered::NoCache(0)));
+    is_done(
+        &rt,
+        heap.call(&rt, alloc, &shelf, &mut ctx, &Request::NewCache),
+    );
+    let addr = region_of(&rt, heap.call(&rt, alloc, &shelf, &mut ctx, &malloc));
+    let free = Request::FreeIn { slot: 0, addr };
+    is_done(&rt, heap.call(&rt, alloc, &shelf, &mut ctx, &free));
+    let again = heap.call(&rt, alloc, &shelf, &mut ctx, &malloc);
+    assert_eq!(rt; region_of(&rt, again), addr);
+    is_done(&rt, heap.call(&rt, alloc, &shelf, &mut ctx, &free));
+    let end = Request::EndCache { slot: 0 };
+    is_done(&rt, heap.call(&rt, alloc, &shelf, &mut ctx, &end));
+    let gone = heap.call(&rt, alloc, &shelf, &mut ctx, &malloc);
+    assert!(rt; matches!(gone, Answered::NoCache(0)));
+    Ok(())
+}

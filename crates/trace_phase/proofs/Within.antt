@@ -56,6 +56,7 @@ setting_within (verb.Bind arena) within = within
 setting_within (verb.Cache is_on) within = tt
 setting_within (verb.Malloc name size) within = tt
 setting_within (verb.Memalign name align size) within = tt
+setting_within (verb.Realloc name size) within = tt
 setting_within (verb.Free target) within = tt
 setting_within (verb.Publish target) within = tt
 setting_within (verb.Take target) within = tt
@@ -64,6 +65,8 @@ setting_within (verb.Decay arena) within = tt
 setting_within (verb.Reset arena) within = tt
 setting_within (verb.Destroy arena) within = tt
 setting_within verb.Flush within = tt
+setting_within (verb.MallocIn name size slot) within = tt
+setting_within (verb.FreeIn region slot) within = tt
 setting_within (verb.CtlPlain name) within = tt
 setting_within (verb.CtlWrite name value) within = tt
 

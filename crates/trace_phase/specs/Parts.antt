@@ -9,7 +9,8 @@ use Rattle.trace_phase.specs.declared.parts.SettingCall.{SettingCall}
 use Rattle.trace_phase.specs.declared.parts.SettingCall.TheVariants.{Create, Time, Bind, Cache}
 use Rattle.trace_phase.specs.declared.parts.Work.{Work}
 
--- the calls that may stand within a phase: they are about regions by their names, the client's cache and unused pages
+-- the calls that may stand within a phase: they are about regions by their names, the client's cache and unused pages. No realloc may,
+-- and no call in an explicit cache
 abbrev pub phase_call : Verb → Option PhaseCall
 phase_call (verb.Malloc name size) = Some (Malloc name size)
 phase_call (verb.Memalign name align size) = Some (Memalign name align size)

@@ -166,7 +166,7 @@ impl Course {
     fn take_setting_call(&mut self, number: u64, client: u32, verb: Verb) -> Result<(), PhaseFault>
         ensures { TakesCall result number (is_some (setting_call verb)) (setting_called self.old client (setting_call verb)) self.new }
     {
-        let Some(call) = SettingCall::from_verb(verb) else {
+        let Some(call) = SettingCall::from_verb(&verb) else {
             return misplaced(number);
         };
         self.parts.push(Part::Setting(Setting::Call {

@@ -92,10 +92,10 @@ pub enum SettingCall {
 
 impl SettingCall {
     /// The call, if it may stand outside phases.
-    pub(crate) fn from_verb(verb: Verb) -> Option<SettingCall>
-        ensures { result ≡ setting_call verb }
+    pub(crate) fn from_verb(verb: &Verb) -> Option<SettingCall>
+        ensures { result ≡ setting_call verb.now }
     {
-        match verb {
+        match *verb {
             Verb::Create(box_no) => Some(SettingCall::Create(box_no)),
             Verb::Time { arena, rest, ms } => Some(SettingCall::Time { arena, rest, ms }),
             Verb::Bind(arena) => Some(SettingCall::Bind(arena)),

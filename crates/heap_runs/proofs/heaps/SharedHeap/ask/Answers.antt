@@ -1,10 +1,17 @@
-use Rattle.heap_runs.proofs.Words.{◌∙◌, refl, sym, subst, append-nil, arc_value, Asked, Comes, HasBox, Moment, known, named_call, seen_at}
-use Rattle.heap_runs.proofs.Asking.{asked_box, asked_comes, asked_next, asked_wanted, next_place, one_plan}
+use Rattle.heap_runs.proofs.Words.{◌∙◌, refl, sym, subst, arc_value, shelf_id, Asked, Comes, HasBox, Moment, known, seen_at}
+use Rattle.heap_runs.proofs.Asking.{asked_box, asked_leaves, next_place, one_plan}
+use Rattle.heap_runs.proofs.Leaving.{Leaves}
 use Rattle.heap_runs.proofs.heaps.SharedHeap.ask.Goals as goal
+use Rattle.heap_runs.proofs.heaps.SharedHeap.ask.Goals.{After-ask-asked}
+use Rattle.heap_runs.proofs.heaps.SharedHeap.ask.Given.{Over}
+
+left : (g : Over) (c : After-ask-asked g) → Leaves c.args.self.now c.args.ctx.now c.args.call.now (Asked c.args.call.now.stage.arena c.ask-asked.result) c.args.ctx.now.passes.items
+left g c =
+    let told = c.ask-asked.ensures in
+    asked_leaves (shelf_id c.args.shelf.now) c.args.self.now c.args.ctx.now c.requires.ctx c.args.call.now c.requires.stands c.args.call.now.stage.arena c.args.ask c.requires.needs c.ask-asked.result told.of_ask told.step.2.answers
 
 pub next-requires-clause-goes : goal.next-requires-clause-goes
-next-requires-clause-goes g c =
-    (asked_comes (known (arc_value c.args.self.now.table) (seen_at c.args.ctx.now.passes.items)) c.args.ctx.now.client c.args.ctx.now.desk.facts (named_call c.args.ctx.now.desk.facts c.args.call.now) c.requires.ctx.arenas c.requires.ctx.ways.few c.requires.stands.comes c.args.call.now.stage.arena c.args.ask c.requires.needs c.ask-asked.result c.ask-asked.ensures.of_ask c.ask-asked.ensures.step.2.answers).0
+next-requires-clause-goes g c = (left g (goal.at.next-requires-clause-goes g c).After-ask-asked).comes.0
 
 pub returns-clause-ctx : goal.returns-clause-ctx
 returns-clause-ctx g c =
@@ -12,20 +19,28 @@ returns-clause-ctx g c =
 
 pub returns-clause-stands : goal.returns-clause-stands
 returns-clause-stands g c =
-    record { client = c.next.ensures.client ∙ c.requires.stands.client; comes = subst (Comes _ (known (arc_value c.args.self.now.table) (seen_at c.args.ctx.now.passes.items)) c.args.ctx.now.client) (sym c.next.ensures.moment) (asked_comes (known (arc_value c.args.self.now.table) (seen_at c.args.ctx.now.passes.items)) c.args.ctx.now.client c.args.ctx.now.desk.facts (named_call c.args.ctx.now.desk.facts c.args.call.now) c.requires.ctx.arenas c.requires.ctx.ways.few c.requires.stands.comes c.args.call.now.stage.arena c.args.ask c.requires.needs c.ask-asked.result c.ask-asked.ensures.of_ask c.ask-asked.ensures.step.2.answers); room = c.next.ensures.room }
+    let at = (goal.at.returns-clause-stands g c).After-ask-asked in
+    let rs = known (arc_value c.args.self.now.table) (seen_at c.args.ctx.now.passes.items) in
+    record { client = c.next.ensures.client ∙ c.requires.stands.client; comes = subst (Comes _ rs c.args.ctx.now.client) (sym c.next.ensures.moment) (left g at).comes; room = c.next.ensures.room }
 
 pub returns-clause-steps : goal.returns-clause-steps
 returns-clause-steps g c =
+    let at = (goal.at.returns-clause-steps g c).After-ask-asked in
     let told = c.ask-asked.ensures in
+    let asked = c.ask-asked.result in
+    let box_no = c.args.box_no in
     λ last has. record {
-      did = Asked c.args.call.now.stage.arena c.ask-asked.result;
-      follows = record { wanted = asked_wanted (known (arc_value c.args.self.now.table) (seen_at c.args.ctx.now.passes.items)) c.args.ctx.now.client c.args.ctx.now.desk.facts (named_call c.args.ctx.now.desk.facts c.args.call.now) c.requires.ctx.arenas c.requires.ctx.ways.few c.requires.stands.comes c.args.call.now.stage.arena c.args.ask c.requires.needs c.ask-asked.result c.ask-asked.ensures.of_ask c.ask-asked.ensures.step.2.answers; box = asked_box (known (arc_value c.args.self.now.table) (seen_at c.args.ctx.now.passes.items)) c.args.ctx.now.client c.args.ctx.now.desk.facts (named_call c.args.ctx.now.desk.facts c.args.call.now) c.requires.ctx.arenas c.requires.ctx.ways.few c.requires.stands.comes c.args.call.now.stage.arena c.args.ask c.requires.needs c.ask-asked.result c.ask-asked.ensures.of_ask c.ask-asked.ensures.step.2.answers last c.args.box_no told.of_box has };
+      did = Asked c.args.call.now.stage.arena asked;
+      follows = record {
+        wanted = (left g at).wanted;
+        box = asked_box (shelf_id c.args.shelf.now) c.args.self.now c.args.ctx.now c.requires.ctx c.args.call.now c.requires.stands c.args.call.now.stage.arena c.args.ask c.requires.needs asked told.of_ask told.step.2.answers last box_no told.of_box has;
+      };
       goes = c.next.ensures.moment;
-      box = subst (λ (m : Moment). HasBox m.stage last c.args.box_no) (sym c.next.ensures.moment) (asked_next (known (arc_value c.args.self.now.table) (seen_at c.args.ctx.now.passes.items)) c.args.ctx.now.client c.args.ctx.now.desk.facts (named_call c.args.ctx.now.desk.facts c.args.call.now) c.requires.ctx.arenas c.requires.ctx.ways.few c.requires.stands.comes c.args.call.now.stage.arena c.args.ask c.requires.needs c.ask-asked.result c.ask-asked.ensures.of_ask c.ask-asked.ensures.step.2.answers last c.args.box_no);
+      box = subst (λ (m : Moment). HasBox m.stage last box_no) (sym c.next.ensures.moment) ((left g at).box last box_no tt);
       gains = record {
         client = refl;
-        turns = λ i few. sym (append-nil _);
-        asks = next_place c.args.ctx.now.seat.places c.ask-asked.new.seat.places c.ask-asked.result c.args.box_no told.of_box told.place told.places;
-        planned = one_plan c.args.shelf.now c.ask-asked.result c.args.box_no c.args.ask told.of_box told.of_ask told.planned;
+        turns = λ i few. (left g at).turns i;
+        asks = next_place c.args.ctx.now.seat.places c.ask-asked.new.seat.places asked box_no told.of_box told.place told.places;
+        planned = one_plan c.args.shelf.now asked box_no c.args.ask told.of_box told.of_ask told.planned;
       };
     }

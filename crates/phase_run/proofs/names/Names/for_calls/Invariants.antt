@@ -1,6 +1,10 @@
-use Rattle.std.proofs.Common.{take}
+use Rattle.std.proofs.Common.{◌≡◌, [], drop, take}
+use Rattle.phase_run.specs.Names.{known_from, known_to}
 use Rattle.phase_run.specs.Walks.{AgreeOn}
 use Rattle.phase_run.proofs.names.Names.for_calls.Given as goal
 
 abbrev pub invariant-loop-call : goal.invariant-loop-call
-invariant-loop-call l = AgreeOn (take l.call-index l.calls) l.own l.self
+invariant-loop-call l = record {
+  known : known_from l.self l.own (drop l.call-index l.calls) ≡ known_to l.self l.calls;
+  agree : AgreeOn (take l.call-index l.calls) l.own l.self;
+}
