@@ -1,6 +1,6 @@
 /* Carries out the lines of a trace by jemalloc, for tools/beside, which builds and runs it: each arena of the trace is an arena of
  * jemalloc's own whose hooks only compute, so no memory lies behind a region and none is touched. Lines and answers are those of
- * docs/TRACE.md; calls in steps, addresses as PTR and counts within a trace aren't. The moment is that of the trace. */
+ * docs/TRACE.md; calls in steps and addresses as PTR aren't. The moment is that of the trace. */
 #define _GNU_SOURCE
 #include <errno.h>
 #include <jemalloc/jemalloc.h>
@@ -260,12 +260,42 @@ static bool of_arena(const char *word, unsigned long long arena, long long time)
     return true;
 }
 
+static size_t count(const char *form, unsigned arena) {
+    size_t value = 0, size = sizeof value;
+    control(form, real[arena], &value, &size, NULL, 0);
+    return value;
+}
+
+static void refresh(void) {
+    uint64_t epoch = 1;
+    mallctl("epoch", NULL, NULL, &epoch, sizeof epoch);
+}
+
+static void print_counts(unsigned arena) {
+    printf("arena %u active %zu dirty %zu muzzy %zu retained %zu\n", arena, 4096 * count("stats.arenas.%u.pactive", arena),
+           4096 * count("stats.arenas.%u.pdirty", arena), 4096 * count("stats.arenas.%u.pmuzzy", arena),
+           count("stats.arenas.%u.retained", arena));
+}
+
+static void counts_within(unsigned long long arena) {
+    if (!is_live(arena)) {
+        printf("no arena %llu\n", arena);
+        return;
+    }
+    refresh();
+    print_counts((unsigned)arena);
+}
+
 static void carry_out(char *line) {
     char word[20], first[300] = "", second[300] = "";
     unsigned long long a = 0, b = 0;
     int at = 0, box;
-    if (sscanf(line, "at %llu", &moment) == 1 || strncmp(line, "counts ", 7) == 0)
+    if (sscanf(line, "at %llu", &moment) == 1)
         return;
+    if (sscanf(line, "counts %llu", &a) == 1) {
+        counts_within(a);
+        return;
+    }
     if (sscanf(line, "refuse %d %19s %299s", &box, first, second) == 3 && box >= 0 && box < BOXES) {
         plan(box, first, second);
         return;
@@ -292,22 +322,6 @@ static void carry_out(char *line) {
         fail("this line isn't compared", line);
 }
 
-static size_t count(const char *form, unsigned arena) {
-    size_t value = 0, size = sizeof value;
-    control(form, real[arena], &value, &size, NULL, 0);
-    return value;
-}
-
-static void print_counts(void) {
-    uint64_t epoch = 1;
-    mallctl("epoch", NULL, NULL, &epoch, sizeof epoch);
-    for (unsigned arena = 0; arena < ARENAS; arena++)
-        if (live[arena])
-            printf("arena %u active %zu dirty %zu muzzy %zu retained %zu\n", arena, 4096 * count("stats.arenas.%u.pactive", arena),
-                   4096 * count("stats.arenas.%u.pdirty", arena), 4096 * count("stats.arenas.%u.pmuzzy", arena),
-                   count("stats.arenas.%u.retained", arena));
-}
-
 int main(void) {
     const char *version = "";
     size_t size = sizeof version, room = 0;
@@ -323,6 +337,9 @@ int main(void) {
         line[length - 1] = line[length - 1] == '\n' ? 0 : line[length - 1];
         carry_out(line);
     }
-    print_counts();
+    refresh();
+    for (unsigned arena = 0; arena < ARENAS; arena++)
+        if (live[arena])
+            print_counts(arena);
     return 0;
 }
