@@ -4,3 +4,7 @@ pub mod Walking
 pub mod Tallies
 pub mod Shifting
 pub mod Pairs
+pub mod Phasing
+pub mod Setting
+pub mod Parting
+pub mod Closing
