@@ -9,12 +9,8 @@ use crate::checks::check_journals;
 use crate::words::{Asked, asked_by, tell_usage};
 use edge_io::{Sink, Source};
 use hook_api::{Askeds, ExtentHooks, HookShelf, Journals};
-use chunk_table::ChunkBook;
-use phase_run::{Threaded, threads};
 use replay_run::{Replayed, replay, soak};
 use std::alloc::Global;
-use std::sync::Wait;
-use std::thread::Threads;
 use trace_soak::Lines;
 
 /// What a run of the program leaves.
@@ -28,8 +24,6 @@ pub struct Outcome<H: ExtentHooks> {
     pub journals: Journals,
     /// Every ask of the run, in order; none where the words ask for no run of calls.
     pub heard: Askeds,
-    /// The chunks that each arena owned at the end, where threads hand journals back.
-    pub chunks: Option<ChunkBook>,
 }
 
 /// The outcome of a run that carried lines out.
@@ -44,18 +38,6 @@ fn outcome_of<H: ExtentHooks>(replayed: Replayed<H>) -> Outcome<H>
         shelf: replayed.shelf,
         journals: replayed.journals,
         heard: replayed.heard,
-        chunks: None,
-    }
-}
-
-/// The outcome of a run of threads.
-fn of_threads<H: ExtentHooks>(alloc: Global, threaded: Threaded<H>) -> Outcome<H> {
-    Outcome {
-        status: threaded.status,
-        shelf: threaded.shelf,
-        journals: threaded.journals,
-        heard: Askeds::new(alloc),
-        chunks: threaded.chunks,
     }
 }
 
@@ -71,7 +53,6 @@ fn untouched<H: ExtentHooks>(alloc: Global, status: u8, shelf: HookShelf<H>) -> 
         shelf,
         journals: Journals::none(alloc),
         heard: Askeds::new(alloc),
-        chunks: None,
     }
 }
 
@@ -82,8 +63,7 @@ fn untouched<H: ExtentHooks>(alloc: Global, status: u8, shelf: HookShelf<H>) -> 
 /// `soak START CALLS`, it carries out lines that are drawn, and prints the counts at their end. Where they are exactly
 /// `check`, it judges the lines of the source as printed journals. Where they are in no list, it writes the usage line and gives
 /// status 2, or 5 where the sink failed, and does nothing else.
-pub fn run<R: Threads + Wait + Sync, S: Source, K: Sink, H: ExtentHooks + Send + Sync>(
-    rt: &R,
+pub fn run<S: Source, K: Sink, H: ExtentHooks>(
     alloc: Global,
     words: &[String],
     source: &mut S,
@@ -110,9 +90,6 @@ pub fn run<R: Threads + Wait + Sync, S: Source, K: Sink, H: ExtentHooks + Send +
             outcome_of(soak(alloc, Lines::new(start, calls), sink, shelf))
         }
         Asked::Check => untouched(alloc, check_journals(alloc, source, sink), shelf),
-        Asked::Threads { with_journals } => {
-            of_threads(alloc, threads(rt, alloc, source, sink, shelf, with_journals))
-        }
         Asked::Nothing => untouched(alloc, tell_usage(sink), shelf),
     }
 }

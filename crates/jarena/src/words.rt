@@ -25,8 +25,6 @@ pub(crate) enum Asked {
     Soak { start: u64, calls: u64 },
     /// A check of journals.
     Check,
-    /// A run of threads, with the journals printed at its end or without.
-    Threads { with_journals: bool },
 }
 
 /// What the words, without the program's name, ask for.
@@ -35,9 +33,6 @@ pub(crate) fn asked_by(words: &[String]) -> Asked
 {
     if let Some(closing) = replay_asked(words) {
         return Asked::Replay(closing);
-    }
-    if let Some(with_journals) = threads_asked(words) {
-        return Asked::Threads { with_journals };
     }
     if is_word(words, "check") {
         return Asked::Check;
@@ -56,19 +51,6 @@ fn replay_asked(words: &[String]) -> Option<Closing>
         [word] if word.as_str() == "replay" => Some(Closing::Lines),
         [word, option] if word.as_str() == "replay" && option.as_str() == "--json" => {
             Some(Closing::Json)
-        }
-        _ => None,
-    }
-}
-
-/// Whether the journals are to be printed, where the words are exactly `threads` or `threads --journal`.
-fn threads_asked(words: &[String]) -> Option<bool>
-    ensures { MatchOption result (IsNoThreads (map string_bytes words.now)) (IsThreads (map string_bytes words.now)) }
-{
-    match words {
-        [word] if word.as_str() == "threads" => Some(false),
-        [word, option] if word.as_str() == "threads" && option.as_str() == "--journal" => {
-            Some(true)
         }
         _ => None,
     }

@@ -4,7 +4,3 @@ pub mod Walking
 pub mod Tallies
 pub mod Shifting
 pub mod Pairs
-pub mod Phasing
-pub mod Setting
-pub mod Parting
-pub mod Closing
