@@ -171,7 +171,9 @@ fn statistics_are_not_written(rt: HostRuntime) {
         "x",
         "EPERM",
     );
-    passes(&rt, "tcache.create", "ENOENT", "0", "ENOENT");
+    passes(&rt, "tcache.create", "call", "0", "EPERM");
+    passes(&rt, "tcache.flush", "EPERM", "0", "call");
+    passes(&rt, "tcache.destroy", "EPERM", "x", "EINVAL");
 }
 
 #[test]
