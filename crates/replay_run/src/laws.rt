@@ -25,8 +25,9 @@ pub fn valid_are_served()
 {}
 
 /// What stands behind each event of a play: a turn changes its own arena alone. After a refused split or commit the extent stands
-/// whole in the list that it belongs to, as committed as it was, and after a refused alloc the arena is as it was. A malloc leaves
-/// all regions as they were, unless it gives some; and where nothing could be done, all is as it was.
+/// whole in the list that it belongs to, as committed as it was; but where a region was to be cut in place it stands as it was. After
+/// a refused alloc the arena is as it was. A malloc leaves all regions as they were, unless it gives some; and where nothing could be
+/// done, all is as it was.
 pub fn events_leave()
     ensures { EventsLeave }
 {}
