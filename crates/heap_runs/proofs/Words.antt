@@ -2,7 +2,7 @@
 pub use Rattle.std.specs.Arc.{arc_value}
 pub use Rattle.std.specs.List.{All, range_with_len, sum_by}
 pub use Rattle.std.specs.Option.{option_map_or}
-pub use Rattle.std.specs.Prelude.{IsOk, slice_get, slice_index, slice_set}
+pub use Rattle.std.specs.Prelude.{IsOk, if◌then◌else◌, slice_get, slice_index, slice_set}
 pub use Rattle.std.specs.declared.snapshot.Snapshot.{Snapshot}
 pub use Rattle.std.proofs.Common.{◌≡◌, ◌≢◌, ◌⊎◌, inl, inr, ℕ, ◌+◌, ◌-◌, ◌<◌, ◌≤◌, ◌==◌, ◌&&◌, ◌++◌, ◌∷◌, [], ◌∙◌, Bool, true, false, cond, eqb, List, Option, None, Some, Result, Ok, Err, IsTrue, append-nil, append_assoc, ap, arith, filter, get_or, length, length-append, lt-ltb, map, refl, replicate, subst, suc, sym, take, zero}
 pub use Rattle.std.proofs.lemmas.Bool.{cases_lt, eq-eqb, ne_eqb}
@@ -42,16 +42,17 @@ pub use Rattle.deeds.specs.Dids.{Asked, Did, HasBox, HaveNext, IsWanted, IsWante
 pub use Rattle.deeds.specs.declared.deeds.Deed.{Deed}
 pub use Rattle.deeds.specs.declared.deeds.Doing.{Doing}
 pub use Rattle.deeds.specs.declared.deeds.Told.{Told}
-pub use Rattle.heap_runs.specs.Heaps.{Gains, HasPlan, IsCtxOf, MayCall, Runs, Stands, Steps, log_of, shelf_id, turns_of}
+pub use Rattle.heap_runs.specs.Heaps.{Gains, counted_by, HasPlan, IsCtxOf, MayCall, Runs, Stands, Steps, log_of, shelf_id, turns_of}
 pub use Rattle.heap_runs.specs.Histories.{told_in, told_to}
 pub use Rattle.heap_runs.specs.Ways.{AreLocks, AreWays, client_of, known, seal, seen_at, state_of, taken_in, told_of, took_in, turns_in}
 pub use Rattle.heap_runs.specs.declared.heaps.Ctx.{Ctx}
 pub use Rattle.heap_runs.specs.declared.heaps.SharedHeap.{SharedHeap}
 pub use Rattle.heap_shared.specs.Shared.{Facts, Logs, MayStand, Owned, after_deed, after_entry, opening_facts, owned_by}
-pub use Rattle.hook_api.specs.Asked.{AskFacts}
+pub use Rattle.hook_api.specs.Asked.{AskFacts, by_box}
 pub use Rattle.hook_api.specs.Counts.{capped}
 pub use Rattle.hook_api.specs.Hooks.{Answers as AnswersTo}
 pub use Rattle.hook_api.specs.Plans.{kind_of}
+pub use Rattle.hook_api.specs.ShareSteps.{one_more}
 pub use Rattle.hook_api.specs.Shared.{had}
 pub use Rattle.hook_api.specs.declared.shared.SharedShelf.{SharedShelf}
 pub use Rattle.recorded_arena.proofs.Turning.{replayed_sound}

@@ -1,12 +1,13 @@
 -- What a context knows of its heap, and what a call of its client does.
-use Rattle.std.specs.Prelude.{◌≡◌, ◌⊎◌, ℕ, ◌<◌, ◌++◌, List, [], ◌∷◌, Option, None, IsTrue, false, true}
+use Rattle.std.specs.Prelude.{◌≡◌, ◌⊎◌, ℕ, ◌<◌, ◌++◌, List, [], ◌∷◌, Option, None, IsTrue, false, true, if◌then◌else◌}
 use Rattle.std.specs.List.{All}
 use Rattle.std.specs.Arc.{arc_value}
 use Rattle.std.specs.declared.snapshot.Snapshot.{Snapshot}
 use Rattle.turn_lock.specs.declared.view.Turn.{Turn}
 use Rattle.atomic_table.specs.Seated.{TableId}
-use Rattle.hook_api.specs.Asked.{AskFacts}
+use Rattle.hook_api.specs.Asked.{AskFacts, by_box}
 use Rattle.hook_api.specs.Plans.{kind_of}
+use Rattle.hook_api.specs.ShareSteps.{one_more}
 use Rattle.hook_api.specs.Shared.{had}
 use Rattle.hook_api.specs.declared.shared.SharedShelf.{SharedShelf}
 use Rattle.call_plan.specs.Calls.{CallFacts, HasRoomToHold, moment_at}
@@ -61,12 +62,18 @@ pub record Stands (heap : SharedHeap) (ctx : Ctx) (call : CallFacts) : Type 0 wh
 abbrev pub HasPlan : {H : Type 0} → SharedShelf H → AskFacts → Type 0
 HasPlan shelf asked = IsTrue asked.planned → had shelf asked.box_no (kind_of asked.ask) ≡ true
 
+-- how many asks each box refused by itself, with those of some asks more
+abbrev pub counted_by : List ℕ → List AskFacts → List ℕ
+counted_by refused [] = refused
+counted_by refused (a ∷ asks) = counted_by (if by_box a then one_more a.box_no refused else refused) asks
+
 -- What a context gains by some turns and asks: each pass its own of the turns and no others, in order, each with what it told; and
--- its seat moves on by just these asks, each planned only where there was a plan.
+-- its seat moves on by just these asks, counts those that a box refused by itself, and each is planned only where there was a plan.
 pub record Gains {H : Type 0} (shelf : SharedShelf H) (heap : SharedHeap) (old new : Ctx) (dids : List Did) : Type 0 where
   pub client : new.client ≡ old.client
   pub turns : (i : ℕ) → i < 32 → turns_of heap new i ≡ turns_of heap old i ++ took_in i dids
   pub asks : HaveNext old.seat.places (asks_of dids) new.seat.places
+  pub refused : new.seat.refused ≡ counted_by old.seat.refused (asks_of dids)
   pub planned : All (HasPlan shelf) (asks_of dids)
 
 -- What one step of a call did, where the last turn was this one.

@@ -40,7 +40,7 @@ impl SharedHeap {
 
     /// Carries the requests of several clients out, each client's in a thread of its own where one can be made, and gives the
     /// contexts back in the order of the jobs. Where memory is wanting for the threads the contexts are given up.
-    pub fn phase<R: Threads + Wait + Sync, H: ExtentHooks + Send + Sync>(
+    pub fn phase<R: Threads + Wait + Sync, H: ExtentHooks + Send>(
         &self,
         rt: &R,
         alloc: Global,

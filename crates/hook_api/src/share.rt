@@ -17,11 +17,12 @@ use crate::orders::Orders;
 use crate::plans::Kind;
 use crate::seat::{AskSeat, AskSeats};
 use crate::share_rule::{Board, Parts, Place};
-use crate::shared::SharedShelf;
+use crate::shared::{Room, SharedShelf};
 use crate::shelf::{BOXES, HookShelf};
 use crate::sights::Began;
 use atomic_table::Table;
 use std::alloc::{AllocError as NoMemory, Global};
+use std::sync::Mutex;
 
 /// The boxes, each with its book.
 fn desks_of<H: ExtentHooks>(
@@ -165,7 +166,7 @@ impl<H: ExtentHooks> HookShelf<H> {
         let shelf = SharedShelf {
             locks,
             orders: orders_in(&books),
-            boxes: room,
+            room: Mutex::new(Room { boxes: room }),
         };
         Ok((shelf, items))
     }

@@ -17,18 +17,24 @@ use crate::share_rule::Place;
 use atomic_table::Badge;
 use space_model::Ask;
 use std::mem;
-use std::sync::Wait;
+use std::sync::{Mutex, Wait};
 
 /// The most that a seat's number of refusals comes to.
 const MOST_REFUSED: u64 = 1 << 58;
+
+/// An empty list with room for the boxes.
+#[derive(Drop)]
+pub struct Room<T> {
+    pub(crate) boxes: Vec<T>,
+    ghost room: { (length boxes.items ≡ 0) × (32 ≤ vec_capacity boxes) },
+}
 
 /// 32 boxes of hooks, each under a lock of its own. Threads share it by reference, and each asks by a seat of its own.
 #[derive(Drop)]
 pub struct SharedShelf<H: ExtentHooks> {
     pub(crate) locks: Locks<H>,
     pub(crate) orders: [Orders; 32],
-    pub(crate) boxes: Vec<H>,
-    ghost room: { (length boxes.items ≡ 0) × (32 ≤ vec_capacity boxes) },
+    pub(crate) room: Mutex<Room<H>>,
 }
 
 impl<H: ExtentHooks> SharedShelf<H> {

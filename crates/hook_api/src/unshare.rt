@@ -16,7 +16,7 @@ use crate::locks::Locks;
 use crate::orders::Orders;
 use crate::seat::{AskSeat, AskSeats};
 use crate::share_rule::{Gathers, Place};
-use crate::shared::SharedShelf;
+use crate::shared::{Room, SharedShelf};
 use crate::shelf::{BOXES, HookShelf};
 use atomic_table::Closed;
 use std::alloc::Global;
@@ -82,8 +82,9 @@ impl<H: ExtentHooks> SharedShelf<H> {
         let SharedShelf {
             locks,
             orders,
-            boxes,
+            room,
         } = self;
+        let Room { boxes } = room.into_inner();
         empty(locks.close(given), &orders, boxes)
     }
 }

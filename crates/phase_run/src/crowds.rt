@@ -95,7 +95,7 @@ fn joined(alloc: Global, groups: Vec<Result<Vec<Shift>, NoMemory>>) -> Result<Ve
 
 /// Carries out what some workers have to do, each that has something in a thread of its own where one can be made, and gives what
 /// they leave, in their order. Where memory is wanting, their contexts are given up.
-pub fn work_at_once<R: Threads + Wait + Sync, H: ExtentHooks + Send + Sync>(
+pub fn work_at_once<R: Threads + Wait + Sync, H: ExtentHooks + Send>(
     rt: &R,
     alloc: Global,
     heap: &SharedHeap,

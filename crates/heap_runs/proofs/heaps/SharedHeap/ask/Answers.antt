@@ -1,5 +1,5 @@
 use Rattle.heap_runs.proofs.Words.{◌∙◌, refl, sym, subst, arc_value, shelf_id, Asked, Comes, HasBox, Moment, known, seen_at}
-use Rattle.heap_runs.proofs.Asking.{asked_box, asked_leaves, next_place, one_plan}
+use Rattle.heap_runs.proofs.Asking.{asked_box, asked_leaves, next_count, next_place, one_plan}
 use Rattle.heap_runs.proofs.Leaving.{Leaves}
 use Rattle.heap_runs.proofs.heaps.SharedHeap.ask.Goals as goal
 use Rattle.heap_runs.proofs.heaps.SharedHeap.ask.Goals.{After-ask-asked}
@@ -41,6 +41,7 @@ returns-clause-steps g c =
         client = refl;
         turns = λ i few. (left g at).turns i;
         asks = next_place c.args.ctx.now.seat.places c.ask-asked.new.seat.places asked box_no told.of_box told.place told.places;
+        refused = next_count c.args.ctx.now.seat.refused c.ask-asked.new.seat.refused asked box_no told.of_box told.refused;
         planned = one_plan c.args.shelf.now asked box_no c.args.ask told.of_box told.of_ask told.planned;
       };
     }

@@ -25,7 +25,7 @@ returns-in-Ok-Some-clause-called g c =
     inl (record {
       dids = [];
       call = record { last = first; led = refl; ends = ended_is first.stage.next c.in-Ok-Some.answer (sym c.in-Ok-Some.ensures.answer ∙ c.in-Ok-Some.field-0-is); leaves = sym c.in-Ok-Some.ensures.desk };
-      gains = record { client = refl; turns = λ i few. sym (append-nil _); asks = refl; planned = All-nil (HasPlan c.args.shelf.now) };
+      gains = record { client = refl; turns = λ i few. sym (append-nil _); asks = refl; refused = refl; planned = All-nil (HasPlan c.args.shelf.now) };
     })
 
 pub unreachable-requires : goal.unreachable-requires
@@ -69,5 +69,5 @@ returns-clause-called g c =
         ends = ran.ends;
         leaves = ran.leaves;
       };
-      gains = record { client = ran.gains.client; turns = ran.gains.turns; asks = ran.gains.asks; planned = ran.gains.planned };
+      gains = record { client = ran.gains.client; turns = ran.gains.turns; asks = ran.gains.asks; refused = ran.gains.refused; planned = ran.gains.planned };
     })

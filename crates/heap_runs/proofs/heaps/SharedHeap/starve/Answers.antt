@@ -24,5 +24,5 @@ returns-clause-steps g c =
       follows = record { wanted = left.wanted; box = tt };
       goes = c.next.ensures.moment;
       box = subst (λ (m : Moment). HasBox m.stage last c.args.box_no) (sym c.next.ensures.moment) (left.box last c.args.box_no tt);
-      gains = record { client = refl; turns = λ i few. left.turns i; asks = refl; planned = All-nil (HasPlan c.args.shelf.now) };
+      gains = record { client = refl; turns = λ i few. left.turns i; asks = refl; refused = refl; planned = All-nil (HasPlan c.args.shelf.now) };
     }

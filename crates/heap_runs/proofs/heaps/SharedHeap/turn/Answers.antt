@@ -63,7 +63,7 @@ returns-in-Ok-clause-steps g c =
       follows = record { wanted = left.wanted; box = tt };
       goes = c.next.ensures.moment;
       box = subst (λ (m : Moment). HasBox m.stage (Some (c.args.turn.arena, told.box_no)) told.box_no) (sym c.next.ensures.moment) (left.box last told.box_no refl);
-      gains = record { client = refl; turns = λ i few. left.turns i; asks = refl; planned = All-nil (HasPlan c.args.shelf.now) };
+      gains = record { client = refl; turns = λ i few. left.turns i; asks = refl; refused = refl; planned = All-nil (HasPlan c.args.shelf.now) };
     }
 
 pub next-requires-in-Err-clause-goes : goal.next-requires-in-Err-clause-goes
@@ -88,5 +88,5 @@ returns-in-Err-clause-steps g c =
       follows = record { wanted = left.wanted; box = tt };
       goes = c.next-in-Err.ensures.moment;
       box = subst (λ (m : Moment). HasBox m.stage last c.args.box_no) (sym c.next-in-Err.ensures.moment) (left.box last c.args.box_no tt);
-      gains = record { client = refl; turns = λ i few. left.turns i; asks = refl; planned = All-nil (HasPlan c.args.shelf.now) };
+      gains = record { client = refl; turns = λ i few. left.turns i; asks = refl; refused = refl; planned = All-nil (HasPlan c.args.shelf.now) };
     }
