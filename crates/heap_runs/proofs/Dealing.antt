@@ -1,5 +1,5 @@
 -- Passes are dealt to contexts.
-use Rattle.std.proofs.Common.{◌≡◌, ℕ, ◌+◌, ◌<◌, ◌≤◌, List, [], ◌∷◌, ◌++◌, false, Option, None, Some, inl, inr, length, length-append, replicate, sym, refl, ap, ◌∙◌, subst, arith}
+use Rattle.std.proofs.Common.{◌≡◌, ℕ, ◌+◌, ◌<◌, ◌≤◌, List, [], ◌∷◌, ◌++◌, suc, zero, map, drop, false, Option, None, Some, inl, inr, length, length-append, replicate, sym, refl, ap, ◌∙◌, subst, arith}
 use Rattle.std.specs.Prelude.{slice_get, slice_set}
 use Rattle.std.proofs.lemmas.List.{length-set}
 use Rattle.std.proofs.lemmas.Option.{get_or_from_slice_get, slice_get_within}
@@ -18,14 +18,18 @@ use Rattle.heap_shared.specs.declared.machine.ArenaTurns.{ArenaTurns}
 use Rattle.heap_runs.specs.declared.heaps.Ctx.{Ctx}
 use Rattle.std.specs.Arc.{arc_value}
 use Rattle.sits.specs.Sitting.{IsAtRest}
-use Rattle.std.specs.List.{All}
+use Rattle.std.specs.List.{All, range_with_len}
+use Rattle.chunk_table.specs.Rule.{blank}
+use Rattle.chunk_table.specs.Steps.{first_of}
+use Rattle.chunk_table.specs.Tables.{share_of}
+use Rattle.chunk_table.specs.declared.table.ChunkSeat.{ChunkSeat}
 use Rattle.atomic_table.specs.Seated.{TableId}
 use Rattle.heap_runs.specs.Ways.{known}
 use Rattle.heap_runs.proofs.Opening.{begin_arenas, begin_rests}
 use Rattle.std.specs.Option.{option_map_or}
 use Rattle.chunk_table.specs.declared.table.ChunkTable.{ChunkTable}
 use Rattle.hook_api.specs.declared.seat.AskSeat.{AskSeat}
-use Rattle.heap_shared.specs.Shared.{opening_facts}
+use Rattle.heap_shared.specs.Shared.{opening_facts, seated_facts}
 use Rattle.turn_lock.specs.Locks.{first, seat_count}
 use Rattle.heap_runs.specs.declared.heaps.SharedHeap.{SharedHeap}
 use Rattle.heap_runs.specs.Heaps.{MayCall, log_of}
@@ -95,12 +99,12 @@ module _ (table : ChunkTable) (clients : ℕ) (olds : List Ctx) where
       nothing : {X : Type 0} {x : X} → None ≡ Some x → ⊥
       nothing e = absurd (cc)
 
-  pub made_more : (locks new_locks : List Lock) (mids news : List Ctx) → AreMade table clients locks olds mids → IsAdded table clients locks new_locks mids news → AreMade table clients new_locks olds news
-  made_more locks new_locks mids news made added = record {
+  pub made_more : (number : ℕ) (locks new_locks : List Lock) (mids news : List Ctx) → number ≡ length locks → AreMade table clients locks olds mids → IsAdded table number clients locks new_locks mids news → AreMade table clients new_locks olds news
+  made_more number locks new_locks mids news own made added = record {
     count = added.given.count ∙ made.count;
     begun = λ i lock at. elim (get_more locks added.lock i lock (sym (ap (λ l. slice_get l i) added.locks) ∙ at)) [
       | inl last ↦ (
-        ap first (sym last.1) ∙ added.begun ∙ ap (λ k. opening_facts k table) (sym last.0),
+        ap first (sym last.1) ∙ added.begun ∙ ap (λ k. seated_facts (length locks) k table) own ∙ ap (λ k. opening_facts k table) (sym last.0),
         ap seat_count (sym last.1) ∙ added.seats,
       )
       | inr within ↦ made.begun i lock within
@@ -130,6 +134,17 @@ module _ (table : ChunkTable) (clients : ℕ) (olds : List Ctx) where
               ];
         };
   }
+
+-- the seats of a table that are left have the numbers from k on
+abbrev pub AreFrom : ℕ → List ChunkSeat → Type 0
+AreFrom k [] = Unit {0}
+AreFrom k (seat ∷ seats) = ((share_of seat).number ≡ k) × AreFrom (k + 1) seats
+
+-- those of a new table have the numbers from 0 on
+pub blanks_from : (arenas k n : ℕ) (seats : List ChunkSeat) → map share_of seats ≡ map (blank arenas) (range_with_len k n) → AreFrom k seats
+blanks_from arenas k n [] free = tt
+blanks_from arenas k zero (seat ∷ seats) free = absurd (cc)
+blanks_from arenas k (suc n) (seat ∷ seats) free = (ap (λ l. (first_of l).number) free, blanks_from arenas (k + 1) n seats (ap (drop 1) free))
 
 pub fresh_more : (seats : List AskSeat) (ctxs : List Ctx) (seat : AskSeat) (ctx : Ctx) → AreFresh seats ctxs → IsFresh (length seats) seat ctx → AreFresh (seats ++ seat ∷ []) (ctxs ++ ctx ∷ [])
 fresh_more seats ctxs seat ctx are is =

@@ -1,12 +1,13 @@
 -- What is left of the arenas of a closed heap.
 use Rattle.std.specs.Prelude.{Option, true}
-use Rattle.heap_runs.proofs.Words.{arc_value, suc, zero, ◌≡◌, ◌∙◌, ◌+◌, ◌-◌, ◌<◌, ◌++◌, ◌∷◌, [], inl, inr, ℕ, List, Some, All, length, length-append, map, range_with_len, sym, refl, ap, subst, arith, take, slice_get, slice_get_within, Snapshot, Turn, ChunkTable, Deed, Facts, after_entry, opening_facts, replay_turns, state_of, replayed_sound}
+use Rattle.heap_runs.proofs.Words.{arc_value, suc, zero, ◌≡◌, ◌≢◌, ◌∙◌, ◌+◌, ◌-◌, ◌<◌, ◌++◌, ◌∷◌, [], inl, inr, ℕ, List, Some, All, length, length-append, map, range_with_len, sym, refl, ap, subst, arith, take, slice_get, slice_get_within, Snapshot, Turn, ChunkTable, Deed, Facts, after_entry, opening_facts, replay_turns, state_of, replayed_sound}
 use Rattle.std.specs.Prelude.{◌/◌, ◌≤◌}
 use Rattle.std.specs.List.{count_by}
 use Rattle.chunk_table.specs.Rule.{owns}
 use Rattle.recorded_arena.specs.Records.{entries_of, opening_space}
 use Rattle.space_model.specs.Journal.{all_stand, replay}
 use Rattle.chunk_table.specs.Tables.{accounts, share_of, IsSeatOf}
+use Rattle.chunk_table.specs.declared.view.Taken.{Taken}
 use Rattle.chunk_table.specs.declared.table.ChunkBook.{ChunkBook}
 use Rattle.chunk_table.specs.declared.table.ChunkSeat.{ChunkSeat}
 use Rattle.hook_api.specs.declared.kept.Journal.{Journal}
@@ -50,11 +51,11 @@ module _ (states left rest : List Facts) (state : Facts) (journals : List Journa
         ]
       ]
 
--- ---- an arena's index and table
+-- ---- an arena's index, the number of its seat, and its table
 
 -- no entry changes them
-kept_by : (s : Facts) (log : List (Turn (Snapshot Deed))) → ((replay_turns after_entry s log).arena.index ≡ s.arena.index) × ((replay_turns after_entry s log).table ≡ s.table)
-kept_by s [] = (refl, refl)
+kept_by : (s : Facts) (log : List (Turn (Snapshot Deed))) → ((replay_turns after_entry s log).arena.index ≡ s.arena.index) × ((replay_turns after_entry s log).table ≡ s.table) × ((replay_turns after_entry s log).number ≡ s.number)
+kept_by s [] = (refl, refl, refl)
 kept_by s (t ∷ log) = kept_by (after_entry s t.entry).0 log
 
 pub index_of : (table : ChunkTable) (i : ℕ) (log : List (Turn (Snapshot Deed))) → (state_of table i log).arena.index ≡ i
@@ -62,6 +63,9 @@ index_of table i log = (kept_by (opening_facts i table) log).0
 
 pub table_of : (table : ChunkTable) (i : ℕ) (log : List (Turn (Snapshot Deed))) → (state_of table i log).table ≡ table
 table_of table i log = (kept_by (opening_facts i table) log).1
+
+pub number_of : (table : ChunkTable) (i : ℕ) (log : List (Turn (Snapshot Deed))) → (state_of table i log).number ≡ i
+number_of table i log = (kept_by (opening_facts i table) log).2
 
 -- ---- all of them
 
@@ -146,18 +150,23 @@ module _ (heap : SharedHeap) (ctxs : List Ctx) (states : List Facts) (journals :
       let low = journal_low i journal here in
       let state = state_at i low in
       let seat = seat_at i low in
-      let part = part_at i state.0 journal seat.0 state.1 here seat.1 in record {
+      let part = part_at i state.0 journal seat.0 state.1 here seat.1 in
+      let closes = closed_at i state.0 low state.1 in
+      let index = ap (λ (s : Facts). s.arena.index) closes.replayed ∙ index_of (arc_value heap.table) i closes.log in
+      let number = part.number ∙ ap (λ (s : Facts). s.number) closes.replayed ∙ number_of (arc_value heap.table) i closes.log in record {
         state = state.0;
-        closed = closed_at i state.0 low state.1;
+        closed = closes;
+        index = part.index ∙ index;
         kept = part.kept;
-        space = part.replayed.space ∙ ap (λ n. replay (opening_space n) (entries_of state.0.arena.kept)) (ap (λ (s : Facts). s.arena.index) (closed_at i state.0 low state.1).replayed ∙ index_of (arc_value heap.table) i (closed_at i state.0 low state.1).log)
-            ∙ ap (λ k. replay (opening_space i) (entries_of k)) (sym part.kept);
+        space = part.replayed.space ∙ ap (λ n. replay (opening_space n) (entries_of state.0.arena.kept)) index ∙ ap (λ k. replay (opening_space i) (entries_of k)) (sym part.kept);
         stand = subst (λ k. all_stand (opening_space i) (entries_of k) ≡ true) (sym part.kept)
-            (subst (λ n. all_stand (opening_space n) (entries_of state.0.arena.kept) ≡ true) (ap (λ (s : Facts). s.arena.index) (closed_at i state.0 low state.1).replayed ∙ index_of (arc_value heap.table) i (closed_at i state.0 low state.1).log) part.replayed.stand);
+            (subst (λ n. all_stand (opening_space n) (entries_of state.0.arena.kept) ≡ true) index part.replayed.stand);
         share = share_of seat.0;
         account = ap (λ l. slice_get l i) is ∙ get_map share_of seats i seat.0 seat.1;
         owned = part.owned;
+        number = number;
         found = part.found;
+        others = subst (λ n. All (λ (t : Taken). t.owner ≢ n + 1) (share_of seat.0).taken) number part.others;
         sound = replayed_sound state.0.arena.index state.0.arena.kept state.0.arena.space part.replayed;
       }
 

@@ -1,18 +1,18 @@
 -- What a heap leaves.
 use Rattle.std.specs.Prelude.{◌≡◌, ◌≢◌, ◌+◌, ◌-◌, ℕ, ◌<◌, ◌≤◌, Bool, true, List, [], Option, Some, length, map, slice_get}
-use Rattle.std.specs.List.{count_by, list_any}
+use Rattle.std.specs.List.{All, count_by, list_any}
 use Rattle.std.specs.Arc.{arc_value}
 use Rattle.std.specs.declared.snapshot.Snapshot.{Snapshot}
 use Rattle.turn_lock.specs.declared.view.Turn.{Turn}
 use Rattle.turn_lock.specs.History.{entries, entries_by, IsLegal}
 use Rattle.deeds.specs.declared.deeds.Deed.{Deed}
 use Rattle.chunk_table.specs.Rule.{owns}
-use Rattle.chunk_table.specs.Tables.{accounts, IsSeatOf}
+use Rattle.chunk_table.specs.Tables.{accounts, share_of, IsSeatOf}
 use Rattle.chunk_table.specs.declared.table.ChunkBook.{ChunkBook}
 use Rattle.chunk_table.specs.declared.table.ChunkSeat.{ChunkSeat}
 use Rattle.chunk_table.specs.declared.view.Share.{Share}
 use Rattle.chunk_table.specs.declared.view.Taken.{Taken}
-use Rattle.heap_shared.specs.Claims.{HasFound, OwnsMet, founds, is_met}
+use Rattle.heap_shared.specs.Claims.{AreOthers, HasFound, OwnsMet, founds, is_met}
 use Rattle.hook_api.specs.Kept.{KeptFacts}
 use Rattle.recorded_arena.specs.Records.{IsReplayed, entries_of, opening_space}
 use Rattle.space_model.specs.Journal.{all_stand, replay}
@@ -59,13 +59,15 @@ abbrev pub seat_of_ctx : Ctx → AskSeat
 seat_of_ctx ctx = ctx.seat
 
 -- What is left of an arena: its journal, and its seat of the chunk table, which owns just the chunks that its extents meet, and failed to
--- claim just those that its entries found.
+-- claim just those that its entries found, whose owner never was the arena itself.
 pub record IsParted (state : Facts) (journal : Journal) (seat : ChunkSeat) : Type 0 where
   pub index : journal.index ≡ state.arena.index
   pub kept : journal.kept ≡ state.arena.kept
   pub table : IsSeatOf state.table seat
   pub owned : OwnsMet seat state.arena.space
   pub found : HasFound seat journal.kept
+  pub number : (share_of seat).number ≡ state.number
+  pub others : AreOthers (share_of seat)
   pub replayed : IsReplayed state.arena.index state.arena.kept state.arena.space
 
 -- What is left of arenas, the last one first.
@@ -95,19 +97,22 @@ abbrev pub AreApart : List Journal → Type 0
 AreApart journals = (page i j : ℕ) (one other : Journal) → slice_get journals i ≡ Some one → slice_get journals j ≡ Some other → is_page_of page (space_left i one.kept) ≡ true → is_page_of page (space_left j other.kept) ≡ true → i ≡ j
 
 -- What is left of the arena with an index: a journal that has the entries of its history, each of which may stand where it comes, and
--- its account in the book of chunks. It
--- owned at the end just the chunks that its extents meet, and the chunks that its entries found in other arenas are those that it failed
--- to claim, in order.
+-- its account in the book of chunks, which has the arena's index as its number. It owned at the end just the chunks that its extents
+-- meet, and the chunks that its entries found in other arenas are those that it failed to claim, in order, each of which named an owner
+-- that is not the arena itself.
 pub record HasJournal (heap : SharedHeap) (ctxs : List Ctx) (book : ChunkBook) (i : ℕ) (journal : Journal) : Type 0 where
   pub state : Facts
   pub closed : IsClosed heap ctxs i state
+  pub index : journal.index ≡ i
   pub kept : journal.kept ≡ state.arena.kept
   pub space : state.arena.space ≡ space_left i journal.kept
   pub stand : all_stand (opening_space i) (entries_of journal.kept) ≡ true
   pub share : Share
   pub account : slice_get (accounts book) i ≡ Some share
+  pub number : share.number ≡ i
   pub owned : (chunk : ℕ) → owns chunk share ≡ is_met chunk state.arena.space
   pub found : map (λ (t : Taken). t.chunk) share.taken ≡ founds journal.kept
+  pub others : All (λ (t : Taken). t.owner ≢ i + 1) share.taken
   pub sound : Sound state.arena.space
 
 -- What a closed heap leaves: the journals of its 32 arenas and the chunks of each, of which none is owned by two, so that no page is in

@@ -11,7 +11,7 @@ use Rattle.turn_lock.specs.Locks.{first, number, seat_count, seen, spare, IsPass
 use Rattle.deeds.specs.declared.deeds.Deed.{Deed}
 use Rattle.deeds.specs.declared.deeds.Doing.{Doing}
 use Rattle.deeds.specs.declared.deeds.Told.{Told}
-use Rattle.heap_shared.specs.Shared.{Facts, Owned, opening_facts}
+use Rattle.heap_shared.specs.Shared.{Facts, Owned, opening_facts, seated_facts}
 use Rattle.heap_shared.specs.declared.machine.ArenaTurns.{ArenaTurns}
 use Rattle.hook_api.specs.declared.seat.AskSeat.{AskSeat}
 use Rattle.call_plan.specs.Clients.{DeskFacts}
@@ -55,11 +55,11 @@ pub record AreGiven (lock : Lock) (olds news : List Ctx) : Type 0 where
   pub count : length news ≡ length olds
   pub each : (k : ℕ) (old new : Ctx) → slice_get olds k ≡ Some old → slice_get news k ≡ Some new → IsGiven lock k old new
 
--- one more arena has its lock, as it is at the start, and every context a pass of that
-pub record IsAdded (table : ChunkTable) (clients : ℕ) (old_locks new_locks : List Lock) (olds news : List Ctx) : Type 0 where
+-- one more arena has its lock, as it is at the start with a seat of this number, and every context a pass of that
+pub record IsAdded (table : ChunkTable) (number clients : ℕ) (old_locks new_locks : List Lock) (olds news : List Ctx) : Type 0 where
   pub lock : Lock
   pub locks : new_locks ≡ old_locks ++ lock ∷ []
-  pub begun : first lock ≡ opening_facts (length old_locks) table
+  pub begun : first lock ≡ seated_facts (length old_locks) number table
   pub seats : seat_count lock ≡ clients
   pub given : AreGiven lock olds news
 

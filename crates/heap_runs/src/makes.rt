@@ -5,7 +5,7 @@ ghost use Rattle.std.specs.List.{All};
 ghost use Rattle.atomic_table.specs.Seated.{TableId};
 ghost use Rattle.hook_api.specs.declared.seat.AskSeat.{AskSeat};
 ghost use Rattle.heap_runs.specs.Heaps.{MayCall};
-ghost use Rattle.chunk_table.specs.Tables.{failed, owned, IsSeatOf};
+ghost use Rattle.chunk_table.specs.Tables.{failed, owned, share_of, IsSeatOf};
 ghost use Rattle.heap_runs.specs.Deals.{AreFresh, AreGiven, IsAdded, IsNew, IsNext};
 
 use crate::heaps::{Ctx, SharedHeap};
@@ -63,7 +63,7 @@ fn add(
     requires unfailed { failed seat ≡ [] }
     requires few { length locks.old.items < 32 }
     requires clients { (0 < clients) × (clients ≡ length ctxs.old.items) }
-    ensures { OnOk result (IsAdded (arc_value table.now) clients locks.old.items locks.new.items ctxs.old.items ctxs.new.items) }
+    ensures { OnOk result (IsAdded (arc_value table.now) (share_of seat).number clients locks.old.items locks.new.items ctxs.old.items ctxs.new.items) }
 {
     let index = locks.len() as u32;
     let arena = SharedArena::new(alloc, index, table.clone()?, seat)?;

@@ -1,5 +1,5 @@
 -- What an operation finds that may stand, and what its entry leaves to others.
-use Rattle.heap_shared.proofs.Words.{◌≡◌, ◌≢◌, ℕ, ◌<◌, ◌++◌, false, IsTrue, List, [], ◌∷◌, Option, None, Some, length, sym, refl, ap, ◌∙◌, subst, arith, get_or-set_other, get_or-set_same, length-set, Snapshot, Op, Reply, mine, Sound, GrowDone, OfferDone, Space, space_after, reply_to, stands, entry_of, opens, room_of, rooms_after, ChunkTable, wanted, with_found, IsElsewhere, Facts, Logs, MayStand, Deed, Doing, Told, deed_of, after_entry, owned_by, Turn, replay_turns, IsKept, heard_of, AskFacts, Record, IsReplayed, record_after, after_deed, true}
+use Rattle.heap_shared.proofs.Words.{◌≡◌, ◌≢◌, ℕ, ◌<◌, ◌++◌, false, IsTrue, List, [], ◌∷◌, Option, None, Some, length, sym, refl, ap, ◌∙◌, subst, arith, get_or-set_other, get_or-set_same, length-set, Snapshot, Op, Reply, mine, Sound, GrowDone, OfferDone, Space, space_after, reply_to, stands, entry_of, opens, room_of, rooms_after, ChunkTable, wanted, with_found, IsElsewhere, Facts, facts_of, Logs, MayStand, Deed, Doing, Told, deed_of, after_entry, owned_by, Turn, replay_turns, IsKept, heard_of, AskFacts, Record, IsReplayed, record_after, after_deed, true}
 use Rattle.space_model.specs.declared.Heard.{Heard}
 use Rattle.std.specs.Prelude.{IfSome, IsSomeAnd}
 use Rattle.hook_api.specs.Asked.{heard_in}
@@ -57,10 +57,10 @@ logs_entry s client doing chunk e is elsewhere replayed clients stand others = r
 }
 
 -- the arena after an entry is what the lock says of it
-pub after_is : (s : Facts) (new : Record) (table : ChunkTable) → table ≡ s.table → (client : ℕ) (op : Op) (asked : Option AskFacts) (e : Snapshot Deed) (reply : Reply) (box_no : ℕ) → e.value ≡ record { client = client; op = op; asked = asked }
+pub after_is : (s : Facts) (new : Record) (number : ℕ) (table : ChunkTable) → number ≡ s.number → table ≡ s.table → (client : ℕ) (op : Op) (asked : Option AskFacts) (e : Snapshot Deed) (reply : Reply) (box_no : ℕ) → e.value ≡ record { client = client; op = op; asked = asked }
     → new ≡ record_after s.arena client op asked → reply ≡ reply_to s.arena.space (entry_of client op) → box_no ≡ new.space.box_no
-    → ◌≡◌ {A = Facts × Told} (record { arena = new; table = table }, record { reply = reply; box_no = box_no }) (after_entry s e)
-after_is s new table at client op asked e reply box_no is after told box =
+    → ◌≡◌ {A = Facts × Told} (facts_of new number table, record { reply = reply; box_no = box_no }) (after_entry s e)
+after_is s new number table kept at client op asked e reply box_no is after told box =
     let boxed : box_no ≡ (space_after s.arena.space (entry_of client op)).box_no = box ∙ ap (λ (r : Record). r.space.box_no) after in
-    subst (λ (d : Deed). ◌≡◌ {A = Facts × Told} (record { arena = new; table = table }, record { reply = reply; box_no = box_no }) (after_deed s d)) (sym is)
-    (λ j. (record { arena = after j; table = at j }, record { reply = told j; box_no = boxed j }))
+    subst (λ (d : Deed). ◌≡◌ {A = Facts × Told} (facts_of new number table, record { reply = reply; box_no = box_no }) (after_deed s d)) (sym is)
+    (λ j. (facts_of (after j) (kept j) (at j), record { reply = told j; box_no = boxed j }))

@@ -9,6 +9,7 @@ pub use Rattle.std.proofs.lemmas.Grind.{flat_map-append}
 pub use Rattle.std.proofs.lemmas.Bool.{ltb-true}
 pub use Rattle.std.proofs.lemmas.Bool.Decides.{nat_tests}
 pub use Rattle.std.proofs.lemmas.List.{get_or-set_other, get_or-set_same, length-set, map-append}
+pub use Rattle.std.proofs.lemmas.List.Elements.{All-push}
 pub use Rattle.std.proofs.lemmas.List.Folds.{Any-from_list_any, list_any-from_Any}
 pub use Rattle.arena_core.specs.Arenas.{opens, Standing, entry_of, room_after, room_of, rooms_after}
 pub use Rattle.chunk_table.proofs.Keeps.{any_without}
@@ -53,7 +54,7 @@ pub use Rattle.turn_lock.specs.declared.machine.Machine.{Ghosts}
 pub use Rattle.turn_lock.specs.declared.view.Turn.{Turn}
 pub use mathlib.Core.Logic.{dite}
 pub use native.Mathlib.Decide.{ℕ_discrete}
-pub use Rattle.heap_shared.specs.Claims.{Claimed, Fails, HasFound, IsElsewhere, IsSettled, OwnsMet, found_list, founds, IsBefore, Released, found_in, granted_span, is_met_by, is_met, refused_span, touched, wanted}
+pub use Rattle.heap_shared.specs.Claims.{AreOthers, Claimed, Fails, HasFound, IsElsewhere, IsSettled, OwnsMet, found_list, founds, IsBefore, Released, found_in, granted_span, is_met_by, is_met, refused_span, touched, wanted}
 pub use Rattle.call_plan.specs.Laws.{with_found}
 pub use Rattle.heap_shared.specs.Shared.{Facts, IsSure, Logs, MayStand, after_deed, after_entry, facts_of, owned_by, Owned}
 pub use Rattle.heap_shared.specs.Turns.{Turned, space_of_history}

@@ -19,9 +19,10 @@ use Rattle.deeds.specs.declared.deeds.Doing.{Doing}
 use Rattle.deeds.specs.declared.deeds.Told.{Told}
 use Rattle.heap_shared.specs.Claims.{IsElsewhere, wanted}
 
--- what contracts see under the lock: the arena with its journal, and the table that all arenas share
+-- what contracts see under the lock: the arena with its journal, the number of its seat, and the table that all arenas share
 pub record Facts : Type 0 where
   pub arena : Record
+  pub number : ℕ
   pub table : ChunkTable
 
 -- what belongs to a client: what it owns of the space, and how many operations it may make that take no memory
@@ -30,9 +31,9 @@ pub record Owned : Type 0 where
   pub has : Mine
   pub room : ℕ
 
--- what contracts see of an arena and the table
-abbrev pub facts_of : Record → ChunkTable → Facts
-facts_of arena table = record { arena = arena; table = table }
+-- what contracts see of an arena, the number of its seat, and the table
+abbrev pub facts_of : Record → ℕ → ChunkTable → Facts
+facts_of arena number table = record { arena = arena; number = number; table = table }
 
 -- what belongs to a client
 abbrev pub owned_by : Facts → ℕ → Owned
@@ -45,7 +46,7 @@ snap k = record { marker = record {}; value = record { client = k.entry.client; 
 -- the arena after an entry, the reply, and the box that the arena asks then
 abbrev pub after_deed : Facts → Deed → Facts × Told
 after_deed s d = (
-  record { arena = record_after s.arena d.client d.op d.asked; table = s.table },
+  record { arena = record_after s.arena d.client d.op d.asked; number = s.number; table = s.table },
   record { reply = reply_to s.arena.space (entry_of d.client d.op); box_no = (space_after s.arena.space (entry_of d.client d.op)).box_no },
 )
 
@@ -79,9 +80,13 @@ pub record Logs (s : Facts) (c : ℕ) (doing : Doing) (e : Snapshot Deed) : Type
 abbrev pub nothing_owned : Owned
 nothing_owned = record { client = 0; has = record { flights = []; offers = []; regions = []; bound = false; trims = false; dying = false }; room = 0 }
 
--- an arena at the start
+-- an arena at the start, by its index and the number of its seat
+abbrev pub seated_facts : ℕ → ℕ → ChunkTable → Facts
+seated_facts index number table = facts_of (opening_record index) number table
+
+-- an arena at the start, whose seat has its index as its number
 abbrev pub opening_facts : ℕ → ChunkTable → Facts
-opening_facts index table = record { arena = opening_record index; table = table }
+opening_facts index table = seated_facts index index table
 
 -- the counts of an arena that is live
 abbrev pub live_counts : Space → Option Counts

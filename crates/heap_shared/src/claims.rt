@@ -103,6 +103,7 @@ impl Claims {
     fn release_span(&mut self, arena: &Arena, span: Span)
         ensures table { arc_value self.new.table ≡ arc_value self.old.table }
         ensures released { Released (Some span) arena.now.space (share_of self.old.seat) (share_of self.new.seat) }
+        ensures number { (share_of self.new.seat).number ≡ (share_of self.old.seat).number }
         ensures failed { failed self.new.seat ≡ failed self.old.seat }
     {
         let (low, high) = chunks_of(span);
@@ -142,6 +143,7 @@ impl Claims {
     pub fn release(&mut self, arena: &Arena, span: Option<Span>)
         ensures table { arc_value self.new.table ≡ arc_value self.old.table }
         ensures released { Released span arena.now.space (share_of self.old.seat) (share_of self.new.seat) }
+        ensures number { (share_of self.new.seat).number ≡ (share_of self.old.seat).number }
         ensures failed { failed self.new.seat ≡ failed self.old.seat }
     {
         if let Some(span) = span {

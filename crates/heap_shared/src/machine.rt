@@ -1,11 +1,11 @@
 //! The machine of an arena: an operation of a client is a step.
 ghost use Rattle.std.specs.Prelude.{◌≡◌, [], length, OnErr, IfOk, IsOk, false};
 ghost use Rattle.std.specs.Arc.{arc_value};
-ghost use Rattle.chunk_table.specs.Tables.{failed, owned, IsSeatOf};
+ghost use Rattle.chunk_table.specs.Tables.{failed, owned, share_of, IsSeatOf};
 ghost use Rattle.arena_core.specs.Arenas.{opens};
-ghost use Rattle.heap_shared.specs.Claims.{HasFound, OwnsMet};
+ghost use Rattle.heap_shared.specs.Claims.{AreOthers, HasFound, OwnsMet};
 ghost use Rattle.recorded_arena.specs.Records.{IsReplayed};
-ghost use Rattle.heap_shared.specs.Shared.{Logs, MayStand, after_entry, live_counts, owned_by, opening_facts};
+ghost use Rattle.heap_shared.specs.Shared.{Logs, MayStand, after_entry, live_counts, owned_by, seated_facts};
 
 use crate::claims::Claims;
 use chunk_table::{ChunkSeat, ChunkTable};
@@ -28,12 +28,13 @@ pub struct SharedArena {
 
 impl Model for SharedArena {
     ghost use Rattle.std.specs.Arc.{arc_value};
+    ghost use Rattle.chunk_table.specs.Tables.{share_of};
     ghost use Rattle.heap_shared.specs.Shared.{Facts, facts_of};
     ghost use Rattle.heap_shared.specs.Claims.{IsSettled};
 
     ghost Value = { Facts };
 
-    ghost view = { λ s. facts_of s.recorded (arc_value s.claims.table) };
+    ghost view = { λ s. facts_of s.recorded (share_of s.claims.seat).number (arc_value s.claims.table) };
 
     ghost invariant = { λ s. IsSettled s.claims.seat s.recorded.space s.recorded.kept };
 }
@@ -49,7 +50,7 @@ impl SharedArena {
         requires seat { IsSeatOf (arc_value table) seat }
         requires none { owned seat ≡ [] }
         requires unfailed { failed seat ≡ [] }
-        ensures { IfOk result (λ s. s ≡ opening_facts index (arc_value table)) }
+        ensures { IfOk result (λ s. s ≡ seated_facts index (share_of seat).number (arc_value table)) }
     {
         Ok(SharedArena {
             recorded: Recorded::new(alloc, index)?,
@@ -58,13 +59,15 @@ impl SharedArena {
     }
 
     /// The journal and the seat, once no turn is to come. It owns just the chunks that extents of the arena meet, and its claims that
-    /// failed are those by which entries of the journal found chunks in other arenas.
+    /// failed are those by which entries of the journal found chunks in other arenas, and never name the arena itself.
     pub fn into_parts(self) -> (Journal, ChunkSeat)
         ensures index { result.0.index ≡ self.arena.index }
         ensures kept { result.0.kept ≡ self.arena.kept }
         ensures table { IsSeatOf self.table result.1 }
         ensures owned { OwnsMet result.1 self.arena.space }
         ensures found { HasFound result.1 result.0.kept }
+        ensures number { (share_of result.1).number ≡ self.number }
+        ensures others { AreOthers (share_of result.1) }
         ensures replayed { IsReplayed self.arena.index self.arena.kept self.arena.space }
     {
         let SharedArena { recorded, claims } = self;
@@ -126,7 +129,7 @@ pub struct ArenaTurns;
 impl Machine for ArenaTurns {
     ghost use Rattle.std.specs.Prelude.{◌∷◌, [], map, refl};
     ghost use Rattle.std.proofs.lemmas.List.{map-append};
-    ghost use Rattle.heap_shared.specs.Shared.{opening_facts, snap, IsSure, Logs, MayStand, after_entry, owned_by};
+    ghost use Rattle.heap_shared.specs.Shared.{seated_facts, snap, IsSure, Logs, MayStand, after_entry, owned_by};
     ghost use Rattle.arena_core.specs.Arenas.{entry_of};
 
     type State = SharedArena;
@@ -151,7 +154,7 @@ impl Machine for ArenaTurns {
 
     ghost kept = { λ s. map snap s.arena.kept };
 
-    ghost start = { λ s. opening_facts s.arena.index s.table };
+    ghost start = { λ s. seated_facts s.arena.index s.number s.table };
 
     ghost keeps = { λ s n op e l. map-append snap s.arena.kept (record { entry = entry_of e.value.client e.value.op; asked = e.value.asked } ∷ []) };
 

@@ -23,5 +23,5 @@ loop-state-preserved c =
       parted = subst (λ l. PartedTo states l c.push_reserved-in-Some.new.self.items) (sym c.push_reserved.ensures.items)
           (subst (λ l. PartedTo states (c.loop-state.journals.items ++ c.into_parts-journal.result.0 ∷ []) l) (sym c.push_reserved-in-Some.ensures.items)
           (parted_more states c.loop-state.states.items c.pop.new.self.items c.in-Some.state c.loop-state.journals.items c.into_parts-journal.result.0 c.loop-state.seats.items c.into_parts-journal.result.1 inv.left c.in-Some.ensures.items count same inv.parted
-          (record { index = one.index; kept = one.kept; table = one.table; owned = one.owned; found = one.found; replayed = one.replayed })));
+          (record { index = one.index; kept = one.kept; table = one.table; owned = one.owned; found = one.found; number = one.number; others = one.others; replayed = one.replayed })));
     }

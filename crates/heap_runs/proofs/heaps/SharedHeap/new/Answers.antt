@@ -1,9 +1,10 @@
-use Rattle.std.proofs.Common.{◌≡◌, ◌∷◌, [], length, length-append, sym, refl, ap, subst, ◌∙◌, arith}
+use Rattle.std.proofs.Common.{◌≡◌, ◌∷◌, [], map, length, length-append, sym, refl, ap, subst, ◌∙◌, arith}
 use Rattle.std.proofs.lemmas.List.{length-map}
 use Rattle.chunk_table.specs.Tables.{share_of}
 use Rattle.std.specs.Arc.{arc_value}
+use Rattle.std.specs.Vec.Iter.{into_iter_items}
 use Rattle.heap_runs.specs.Deals.{AreMade}
-use Rattle.heap_runs.proofs.Dealing.{bare, is_new, made_more, made_none, new_calls}
+use Rattle.heap_runs.proofs.Dealing.{AreFrom, bare, blanks_from, is_new, made_more, made_none, new_calls}
 use Rattle.heap_runs.proofs.heaps.SharedHeap.new.Goals as goal
 
 pub loop-seat-init : goal.loop-seat-init
@@ -11,6 +12,7 @@ loop-seat-init c = let none = ap length c.new-locks.ensures.items in let given =
     let long : length c.in_ok-table.chunk_seats.items ≡ 32 = sym (length-map c.in_ok-table.chunk_seats.items share_of) ∙ ap length c.in_ok-table.ensures.free in
     record {
       left = let all = given.1 in omega (arith, none, all, long);
+      own = subst (λ n. AreFrom n (into_iter_items c.into_iter-seat-iterator.result)) (sym none) (blanks_from 32 0 32 _ (ap (map share_of) given.0 ∙ c.in_ok-table.ensures.free));
       made = subst (λ l. AreMade (arc_value c.in_ok-table-2.table) c.len-clients.result l c.in_ok-ctxs.ctxs.items c.in_ok-ctxs.ctxs.items) (sym c.new-locks.ensures.items)
           (made_none (arc_value c.in_ok-table-2.table) c.len-clients.result c.in_ok-ctxs.ctxs.items (bare c.args.seats.items c.in_ok-ctxs.ctxs.items c.in_ok-ctxs.ensures));
     }
@@ -19,10 +21,12 @@ pub loop-seat-preserved : goal.loop-seat-preserved
 loop-seat-preserved c =
     let added = c.in_ok-add.ensures in
     let left = c.loop-seat.invariant.left in
+    let own = subst (AreFrom (length c.loop-seat.locks.items)) c.in-Some.ensures.steps.0 c.loop-seat.invariant.own in
     let longer = ap length added.locks ∙ length-append c.loop-seat.locks.items (added.lock ∷ []) in
     let steps = c.in-Some.ensures.steps.1 in record {
       left = omega (arith, left, longer, steps);
-      made = made_more (arc_value c.in_ok-table-2.table) c.len-clients.result c.in_ok-ctxs.ctxs.items c.loop-seat.locks.items c.add.new.locks.items c.loop-seat.ctxs.items c.add.new.ctxs.items c.loop-seat.invariant.made added;
+      own = subst (λ n. AreFrom n (into_iter_items c.next.new.self)) (sym longer) own.1;
+      made = made_more (arc_value c.in_ok-table-2.table) c.len-clients.result c.in_ok-ctxs.ctxs.items (share_of c.in-Some.seat).number c.loop-seat.locks.items c.add.new.locks.items c.loop-seat.ctxs.items c.add.new.ctxs.items own.0 c.loop-seat.invariant.made added;
     }
 
 pub add-requires-clause-few : goal.add-requires-clause-few

@@ -1,12 +1,12 @@
-use Rattle.heap_shared.proofs.Words.{◌≡◌, ◌∙◌, Some, None, sym, ap, subst, arc_value, entry_of, owns, share_of, Released, is_met, touched, wanted, Facts, Logs, MayStand, after_entry, facts_of, owned_by, Reply, mine, Space, space_after, both_true, replayed_sound, opens, true, false, is_met_by, refl, IsTrue, stands, with_found, Deed, IsElsewhere, Op, Record, KeptFacts, founds, record_after}
+use Rattle.heap_shared.proofs.Words.{◌≡◌, ◌∙◌, Some, None, sym, ap, subst, arc_value, entry_of, owns, share_of, Released, is_met, touched, wanted, Facts, Logs, MayStand, after_entry, facts_of, owned_by, Reply, mine, Space, space_after, both_true, replayed_sound, opens, true, false, is_met_by, refl, IsTrue, stands, with_found, Deed, IsElsewhere, Op, Record, KeptFacts, found_in, founds, record_after}
 use Rattle.heap_shared.proofs.Chunks.{owns_after}
-use Rattle.heap_shared.proofs.Sweeps.{found_more}
+use Rattle.heap_shared.proofs.Sweeps.{found_more, others_more}
 use Rattle.heap_shared.proofs.Rooms.{after_is, found_kept, found_may, found_opens, found_room, logs_entry, opens_claims}
 use Rattle.heap_shared.proofs.machine.SharedArena.take.Goals as goal
 
 pub turn-requires-clause-stands : goal.turn-requires-clause-stands
 turn-requires-clause-stands c =
-    let s = facts_of c.self.inside.recorded (arc_value c.self.inside.claims.table) in
+    let s = facts_of c.self.inside.recorded (share_of c.self.inside.claims.seat).number (arc_value c.self.inside.claims.table) in
     let client = c.args.client in
     let doing = c.args.doing in
     let made = c.settle-op.result in
@@ -18,7 +18,7 @@ turn-requires-clause-stands c =
 
 pub turn-requires-clause-kept : goal.turn-requires-clause-kept
 turn-requires-clause-kept c =
-    let s = facts_of c.self.inside.recorded (arc_value c.self.inside.claims.table) in
+    let s = facts_of c.self.inside.recorded (share_of c.self.inside.claims.seat).number (arc_value c.self.inside.claims.table) in
     let client = c.args.client in
     let doing = c.args.doing in
     let made = c.settle-op.result in
@@ -30,7 +30,7 @@ turn-requires-clause-kept c =
 
 pub returns-clause-entry : goal.returns-clause-entry
 returns-clause-entry c =
-    let s = facts_of c.self.inside.recorded (arc_value c.self.inside.claims.table) in
+    let s = facts_of c.self.inside.recorded (share_of c.self.inside.claims.seat).number (arc_value c.self.inside.claims.table) in
     let client = c.args.client in
     let doing = c.args.doing in
     let made = c.settle-op.result in
@@ -46,7 +46,7 @@ returns-clause-entry c =
 
 pub invariant_of-self-2 : goal.invariant_of-self-2
 invariant_of-self-2 c =
-    let s = facts_of c.self.inside.recorded (arc_value c.self.inside.claims.table) in
+    let s = facts_of c.self.inside.recorded (share_of c.self.inside.claims.seat).number (arc_value c.self.inside.claims.table) in
     let client = c.args.client in
     let doing = c.args.doing in
     let made = c.settle-op.result in
@@ -66,6 +66,7 @@ invariant_of-self-2 c =
     let entered : KeptFacts = record { entry = entry_of client made; asked = doing.asked } in record {
       owned = λ chunk. subst (λ (t : Space). owns chunk new ≡ is_met chunk t) (sym left)
           (owns_after client s.arena.space made sound (both_true _ _ stand).1 chunk old mid new c.self.invariant.owned c.settle-op.ensures.claimed three);
-      found = found_more old.taken mid.taken new.taken s.arena.kept entered c.self.invariant.found c.settle-op.ensures.claimed.fails c.release.ensures.failed
+      found = found_more old.number old.taken mid.taken new.taken s.arena.kept entered c.self.invariant.found c.settle-op.ensures.claimed.fails c.release.ensures.failed
           ∙ ap founds (sym (ap (λ (r : Record). r.kept) c.in_ok-turn.ensures.after));
+      others = others_more old mid new (found_in made) c.self.invariant.others c.settle-op.ensures.claimed.fails c.release.ensures.failed (c.release.ensures.number ∙ c.settle-op.ensures.claimed.number);
     }
