@@ -84,7 +84,7 @@ abbrev IsOther : ℕ → Type 0
 IsOther b = eqb b 10 ≡ false
 
 -- what has no newline, by a test and by each byte
-no_newline : (bytes : List ℕ) → list_all (is_in_word 10) bytes ≡ true → All IsOther bytes
+pub no_newline : (bytes : List ℕ) → list_all (is_in_word 10) bytes ≡ true → All IsOther bytes
 no_newline [] h = All-nil IsOther
 no_newline (b ∷ bytes) h =
     let parts = and_parts (is_in_word 10 b) (list_all (is_in_word 10) bytes) h in
@@ -97,8 +97,8 @@ one_line (word ∷ words) p =
     All-cons IsOther 32 (word ++ spaced words) refl (All-append IsOther word (spaced words) (no_newline word p.0.1) (one_line words p.1))
 
 -- the text of an entry is one line
-pub entry_line : (index : ℕ) (entry : Entry) → FitsEntry index entry → IsOneLine (entry_text index entry)
-entry_line index entry f =
+pub entry_is_line : (index : ℕ) (entry : Entry) → FitsEntry index entry → IsOneLine (entry_text index entry)
+entry_is_line index entry f =
     let plain = exact_entry.plain (index, entry) f in
     All-append IsOther (decimal index) (spaced (decimal entry.client ∷ op_words entry.op)) (no_newline (decimal index) plain.0.1)
     (one_line (decimal entry.client ∷ op_words entry.op) plain.1)

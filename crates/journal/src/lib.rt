@@ -16,5 +16,5 @@ mod widths;
 mod writing;
 
 pub use faults::ReadFault;
-pub use printing::print;
+pub use printing::{print, put_journals};
 pub use reading::read;

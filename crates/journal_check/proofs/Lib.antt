@@ -4,3 +4,5 @@ pub mod Judging
 pub mod Accepting
 pub mod Told
 pub mod Passing
+pub mod Passed
+pub mod Printed

@@ -53,9 +53,13 @@ WholeInputsStand = (input : List ℕ) (log : List Logged) → judgement input �
 abbrev pub StandingInputsAreWhole : Type 0
 StandingInputsAreWhole = (input : List ℕ) → IsStanding (lines_of input) → (log : List Logged) × (judgement input ≡ Left log)
 
+-- whether the arena with an index owns a chunk once it has these entries: an extent of it meets the chunk
+abbrev pub owns_by : ℕ → ℕ → List Entry → Bool
+owns_by chunk i entries = list_any (λ p. meets p.span (chunk_span chunk)) (replay (opening_space i) entries).parts
+
 -- whether an arena owns a chunk, as its own entries leave it
 abbrev pub owns_left : ℕ → List Line → ℕ → Bool
-owns_left chunk lines i = list_any (λ p. meets p.span (chunk_span chunk)) (replay (opening_space i) (entries_of i lines)).parts
+owns_left chunk lines i = owns_by chunk i (entries_of i lines)
 
 -- Printed journals are accepted, however many lines they have: each line is whole, each arena's entries stand in their order, and
 -- no chunk has two owners among the 32 arenas that they leave.

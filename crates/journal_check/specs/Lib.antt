@@ -3,3 +3,4 @@ pub mod Logs
 pub mod Apart
 pub mod Verdicts
 pub mod Accepted
+pub mod Printed

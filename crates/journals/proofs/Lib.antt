@@ -1,5 +1,5 @@
 mod Nothing
-mod Printed
+mod Texts
 mod Arenas
 mod Accepted
 mod Ruled

@@ -1,4 +1,3 @@
-pub mod Texts
 pub mod Asks
 pub mod Runs
 pub mod Wanted

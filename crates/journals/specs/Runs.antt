@@ -4,19 +4,13 @@ use Rattle.edge_io.specs.Bytes.{Appends, AppendsPrefix}
 use Rattle.hook_api.specs.Asked.{AskFacts}
 use Rattle.hook_api.specs.Shelf.{Shelf}
 use Rattle.hook_api.specs.declared.kept.Journal.{Journal}
-use Rattle.journal_check.specs.Accepted.{AreAccepted, IsPassed, IsWithinLimits}
-use Rattle.line_reader.specs.Lines.{lines_of}
+use Rattle.journal.specs.Texts.{journals_text}
+use Rattle.journal_check.specs.Printed.{IsAcceptedText}
 use Rattle.replay_run.specs.declared.replays.Closing.TheVariants.{Lines}
 use Rattle.replay_run.specs.Replays.{DoesNothing, HandsOut, ReplayOf}
 use Rattle.journals.specs.Asks.{asks_text}
-use Rattle.journals.specs.Texts.{journals_text}
 use Rattle.journals.specs.declared.words.Printed.{Printed}
 use Rattle.journals.specs.declared.words.Printed.TheVariants.{Report, Journals, Asks}
-
--- A text of journals is accepted, and a check of it says so, unless it passes one of the check's limits.
-pub record IsAcceptedText (text : List ℕ) : Type 0 where
-  pub accepted : AreAccepted (lines_of text)
-  pub passes : IsWithinLimits (lines_of text) → IsPassed text
 
 -- The lines of the source are replayed, and the report goes nowhere. The journals that the replay hands out are printed whole, and
 -- the status is the replay's; or a beginning of them is, and the status is 5 or 6. At every other status they are accepted.

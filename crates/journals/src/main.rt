@@ -3,7 +3,6 @@
 #![tactic(auto)]
 
 mod asks;
-mod printing;
 mod runs;
 #[cfg(test)]
 mod tests;

@@ -3,10 +3,10 @@
 ghost use Rattle.journals.specs.Runs.{PrintsAsks, PrintsJournals, PrintsRun};
 
 use crate::asks::heard_text;
-use crate::printing::journals_text;
 use crate::words::{Printed, SINK_FAILED};
 use edge_io::{Failed, Sink, Source, WriteEdge, write_whole};
 use hook_api::{ExtentHooks, HookShelf};
+use journal::put_journals;
 use replay_run::{Closing, replay};
 use std::alloc::Global;
 use std::io;
@@ -30,7 +30,8 @@ fn print_journals<S: Source, K: Sink, H: ExtentHooks>(
         shelf,
         Closing::Lines,
     );
-    let Ok(text) = journals_text(alloc, replayed.journals.as_slice()) else {
+    let mut text = Vec::new(alloc);
+    let Ok(()) = put_journals(alloc, &mut text, replayed.journals.as_slice()) else {
         return NO_MEMORY;
     };
     match write_whole(sink, &text) {

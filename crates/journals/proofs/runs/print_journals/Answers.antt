@@ -1,9 +1,10 @@
-use Rattle.std.proofs.Common.{ℕ, List, inl, inr, refl, ◌∙◌, ap, subst}
+use Rattle.std.proofs.Common.{ℕ, List, inl, inr, refl, subst}
 use Rattle.std.specs.List.{AllByRecursion}
 use Rattle.edge_io.specs.Bytes.{Appends, AppendsPrefix}
-use Rattle.journals.specs.Texts.{AreReadAgain, journals_text}
+use Rattle.journal.specs.Texts.{AreReadAgain, journals_text}
 use Rattle.journals.proofs.Accepted.{handed_accepted}
 use Rattle.journals.proofs.Nothing.{none_more}
+use Rattle.journals.proofs.Texts.{text_alone}
 use Rattle.journals.proofs.runs.print_journals.Goals as goal
 
 pub returns-in_default : goal.returns-in_default
@@ -25,7 +26,7 @@ returns-in_default g c =
 pub returns-in-Ok-write_whole : goal.returns-in-Ok-write_whole
 returns-in-Ok-write_whole g c =
     let told = c.replay-replayed.ensures in
-    let text = c.deref.ensures.value ∙ c.in-Ok.ensures.text ∙ ap journals_text c.as_slice.ensures.journals in
+    let text = text_alone _ _ _ _ _ c.deref.ensures.value c.in-Ok.ensures.text c.new-text.ensures.items c.as_slice.ensures.journals in
     let held = g.K.Sink.held c.args.sink.now in
     let held' = g.K.Sink.held c.write_whole.new.sink in
     let printed = subst (λ (t : List ℕ). Appends held held' t) text c.in-Ok-write_whole.ensures.ok in
@@ -47,7 +48,7 @@ returns-in-Ok-write_whole g c =
 pub returns : goal.returns
 returns g c =
     let told = c.replay-replayed.ensures in
-    let text = c.deref.ensures.value ∙ c.in-Ok.ensures.text ∙ ap journals_text c.as_slice.ensures.journals in record {
+    let text = text_alone _ _ _ _ _ c.deref.ensures.value c.in-Ok.ensures.text c.new-text.ensures.items c.as_slice.ensures.journals in record {
       prints = record {
         replayed = c.replay-replayed.result.status;
         made = told.replay.0;
