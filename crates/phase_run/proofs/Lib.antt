@@ -4,3 +4,10 @@ pub mod Walking
 pub mod Tallies
 pub mod Shifting
 pub mod Pairs
+pub mod Taking
+pub mod Phasing
+pub mod Setting
+pub mod Parting
+pub mod Opening
+pub mod Closing
+pub mod Telling

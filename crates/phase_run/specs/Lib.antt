@@ -5,3 +5,7 @@ pub mod Tally
 pub mod Walks
 pub mod Shifts
 pub mod Crowds
+pub mod Stands
+pub mod Crews
+pub mod Summaries
+pub mod Threads

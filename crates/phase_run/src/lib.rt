@@ -2,12 +2,15 @@
 //! names that it knows; and the workers of a phase, which carry out what its clients do, beside each other.
 #![tactic(auto)]
 
+mod crews;
 mod crowds;
 mod jobs;
 mod names;
 mod phases;
 mod reading;
 mod requests;
+mod runs;
+mod summaries;
 mod tally;
 mod workers;
 
@@ -17,5 +20,6 @@ pub use names::{Names, Place};
 pub use phases::read_phases;
 pub use reading::{Unread, read_lines};
 pub use requests::{request_of, setting_request};
+pub use runs::{Threaded, threads};
 pub use tally::Tally;
 pub use workers::{Shift, Worker, work};
