@@ -1,5 +1,7 @@
 mod OneWord
 mod Lists
 mod Numbers
+mod Threading
+mod Accepting
 mod Completing
 mod Verdicts

@@ -1,5 +1,6 @@
 -- What a run of the program does, by the list of words that it is given: one record for each list.
-use Rattle.std.specs.Prelude.{◌≡◌, ◌≢◌, ◌⊎◌, ℕ, Bool, true, false, List, [], Option, None}
+use Rattle.std.specs.Prelude.{◌≡◌, ◌≢◌, ◌⊎◌, ℕ, Bool, true, false, IsTrue, List, [], Option, None}
+use Rattle.chunk_table.specs.declared.table.ChunkBook.{ChunkBook}
 use Rattle.edge_io.specs.Bytes.{Appends, AppendsPrefix, Rose}
 use Rattle.hook_api.specs.Asked.{AskFacts}
 use Rattle.hook_api.specs.Shelf.{Shelf}
@@ -11,19 +12,22 @@ use Rattle.replay_run.specs.Replays.{Bad, DoesNothing, HandsOut, ReplayOf}
 use Rattle.replay_run.specs.Soaks.{IsSoakStatus, SoakOf}
 use Rattle.replay_run.specs.Stops.{IsReplayStatus, IsWholeStatus}
 use Rattle.trace_soak.specs.Soak.{lines}
+use Rattle.journal_check.specs.Printed.{IsAcceptedText}
+use Rattle.phase_run.specs.Threads.{Runs, held_by, left_by}
 use Rattle.jarena.specs.Checks.{IsChecked}
 pub use Rattle.jarena.specs.Facts.{SinkFacts, SourceFacts, sink_facts, source_facts}
 
--- what a run leaves: its status, the shelf, the journals and what was heard
+-- what a run leaves: its status, the shelf, the journals, what was heard, and the chunks that the arenas owned at the end
 pub record RunFacts : Type 0 where
   pub status : ℕ
   pub shelf : Shelf
   pub journals : List Journal
   pub heard : List AskFacts
+  pub chunks : Option ChunkBook
 
 -- what is left, by its parts
-abbrev pub run_facts : ℕ → Shelf → List Journal → List AskFacts → RunFacts
-run_facts status shelf journals heard = record { status = status; shelf = shelf; journals = journals; heard = heard }
+abbrev pub run_facts : ℕ → Shelf → List Journal → List AskFacts → Option ChunkBook → RunFacts
+run_facts status shelf journals heard chunks = record { status = status; shelf = shelf; journals = journals; heard = heard; chunks = chunks }
 
 -- status 2 and the whole usage line; or status 5, where the sink's count of faults rose, and a beginning of that line
 abbrev pub TellsUsage : ℕ → SinkFacts → SinkFacts → Type 0
@@ -38,6 +42,7 @@ pub record OnlyTellsUsage (run : RunFacts) (shelf : Shelf) (sink sink' : SinkFac
   pub handed_on : run.status ≡ 2 → sink'.waits ≡ false
   pub unasked : run.heard ≡ []
   pub no_journals : run.journals ≡ []
+  pub no_chunks : run.chunks ≡ None
   pub same_shelf : run.shelf ≡ shelf
 
 -- `replay`, or `replay --json` by another form of the counts: the lines of the source are replayed. Where the status says that the report is whole, nothing failed and nothing
@@ -54,6 +59,7 @@ pub record Replays (form : Closing) (run : RunFacts) (shelf : Shelf) (source sou
   pub known : IsReplayStatus run.status
   pub completes : ((cause : Cause) → replay.ending ≢ Bad cause) → (Rose source.faults source'.faults → ⊥) → (Rose sink.faults sink'.faults → ⊥)
       → (run.status ≡ 0) ⊎ (run.status ≡ 6)
+  pub no_chunks : run.chunks ≡ None
 
 -- `soak START CALLS`: the lines that are drawn from the start, so many, are carried out. At status 0 nothing failed and nothing
 -- waits; and where the count of faults didn't rise, the status is 0, or 6 for want of memory.
@@ -66,10 +72,25 @@ pub record Soaks (start calls : ℕ) (run : RunFacts) (shelf : Shelf) (sink sink
   pub handed_on : run.status ≡ 0 → sink'.waits ≡ false
   pub known : IsSoakStatus run.status
   pub completes : (Rose sink.faults sink'.faults → ⊥) → (run.status ≡ 0) ⊎ (run.status ≡ 6)
+  pub no_chunks : run.chunks ≡ None
 
 -- `check`: the lines of the source are judged as journals, and nothing else is done.
 pub record Checks (run : RunFacts) (shelf : Shelf) (source source' : SourceFacts) (sink sink' : SinkFacts) : Type 0 where
   pub checks : IsChecked run.status source source' sink sink'
   pub unasked : run.heard ≡ []
   pub no_journals : run.journals ≡ []
+  pub no_chunks : run.chunks ≡ None
   pub same_shelf : run.shelf ≡ shelf
+
+-- a text was written whose journals are accepted
+abbrev pub WritesAccepted : SinkFacts → SinkFacts → Type 0
+WritesAccepted old new = (text : List ℕ) × Appends old.held new.held text × IsAcceptedText text
+
+-- `threads`, or `threads --journal` where the journals are printed behind the summary: all lines of the source are read, and then carried
+-- out by the clients of the trace, each phase's beside each other; or the first bad line is told. Journals that are printed whole are
+-- accepted.
+pub record RunsThreads (with_journals : Bool) (run : RunFacts) (shelf : Shelf) (source source' : SourceFacts) (sink sink' : SinkFacts) : Type 0 where
+  pub runs : Runs with_journals source.left source'.ended source.faults source'.faults shelf run.shelf (left_by run.status run.journals run.chunks)
+      (held_by sink.held sink.faults sink.waits) (held_by sink'.held sink'.faults sink'.waits)
+  pub unheard : run.heard ≡ []
+  pub accepted : IsTrue with_journals → run.status ≡ 0 → WritesAccepted sink sink'

@@ -1,10 +1,10 @@
 -- The words that the program is given, as texts.
-use Rattle.std.specs.Prelude.{◌≡◌, ◌≢◌, ℕ, ◌^◌, ◌<◌, ◌≤◌, List, [], ◌∷◌, codes}
+use Rattle.std.specs.Prelude.{◌≡◌, ◌≢◌, ℕ, ◌^◌, ◌<◌, ◌≤◌, Bool, true, false, List, [], ◌∷◌, codes}
 use Rattle.std.specs.Fmt.{decimal}
 use Rattle.replay_run.specs.declared.replays.Closing.{Closing}
 use Rattle.replay_run.specs.declared.replays.Closing.TheVariants.{Lines, Json}
 use Rattle.jarena.specs.declared.words.Asked.{Asked}
-use Rattle.jarena.specs.declared.words.Asked.TheVariants.{Nothing, Replay, Soak, Check}
+use Rattle.jarena.specs.declared.words.Asked.TheVariants.{Nothing, Replay, Soak, Check, Threads}
 
 -- the words of a replay whose counts are told in this form
 abbrev pub replay_words : Closing → List (List ℕ)
@@ -18,6 +18,11 @@ soak_words start calls = codes "soak" ∷ decimal start ∷ decimal calls ∷ []
 -- the words of a check
 abbrev pub check_words : List (List ℕ)
 check_words = codes "check" ∷ []
+
+-- the words of a run of threads, whose journals are printed or not
+abbrev pub threads_words : Bool → List (List ℕ)
+threads_words false = codes "threads" ∷ []
+threads_words true = codes "threads" ∷ codes "--journal" ∷ []
 
 -- the words are exactly `replay`, or `replay --json` where the counts are told as JSON
 abbrev pub IsReplay : List (List ℕ) → Closing → Type 0
@@ -39,9 +44,17 @@ IsSoak words start calls = (words ≡ soak_words start calls) × (start < 2 ^ 64
 abbrev pub IsNoSoak : List (List ℕ) → Type 0
 IsNoSoak words = (start : ℕ) (calls : ℕ) → IsSoak words start calls → ⊥
 
--- the words are in no list that is built
+-- the words are exactly `threads`, or `threads --journal` where the journals are printed
+abbrev pub IsThreads : List (List ℕ) → Bool → Type 0
+IsThreads words with_journals = words ≡ threads_words with_journals
+
+-- they are so in neither way
+abbrev pub IsNoThreads : List (List ℕ) → Type 0
+IsNoThreads words = (with_journals : Bool) → IsThreads words with_journals → ⊥
+
+-- the words are in no list
 abbrev pub IsInNoList : List (List ℕ) → Type 0
-IsInNoList words = IsNoReplay words × IsNoSoak words × (words ≢ check_words)
+IsInNoList words = IsNoReplay words × IsNoSoak words × (words ≢ check_words) × IsNoThreads words
 
 -- the words ask for this
 abbrev pub IsAsked : List (List ℕ) → Asked → Type 0
@@ -49,3 +62,4 @@ IsAsked words Nothing = IsInNoList words
 IsAsked words (Replay form) = IsReplay words form
 IsAsked words (Soak start calls) = IsSoak words start calls
 IsAsked words Check = IsCheck words
+IsAsked words (Threads with_journals) = IsThreads words with_journals

@@ -19,6 +19,7 @@ use std::env;
 use std::io::{BufWriter, ErrorKind};
 use std::process::ExitCode;
 use std::sync::Wait;
+use std::thread::Threads;
 
 /// The words, without the program's name. Words that aren't text are in no list, as no words are.
 fn given_words(rt: &HostRuntime) -> Result<Vec<String>, NoMemory> {
@@ -32,7 +33,11 @@ fn given_words(rt: &HostRuntime) -> Result<Vec<String>, NoMemory> {
 /// Runs the program on standard input and standard output, and gives its status.
 ///
 /// What is written waits in a buffer until the run flushes it.
-fn run_on_streams<H: ExtentHooks>(rt: &HostRuntime, shelf: HookShelf<H>) -> Result<u8, NoMemory> {
+fn run_on_streams<R: Threads + Wait + Sync, H: ExtentHooks + Send>(
+    rt: &HostRuntime,
+    waiting: &R,
+    shelf: HookShelf<H>,
+) -> Result<u8, NoMemory> {
     let alloc = rt.alloc();
     let words = given_words(rt)?;
     let mut source = ReadEdge::new(rt.stdin());
@@ -40,16 +45,16 @@ fn run_on_streams<H: ExtentHooks>(rt: &HostRuntime, shelf: HookShelf<H>) -> Resu
         return Err(NoMemory);
     };
     let mut sink = WriteEdge::new(output);
-    Ok(run(alloc, &words, &mut source, &mut sink, shelf).status)
+    Ok(run(waiting, alloc, &words, &mut source, &mut sink, shelf).status)
 }
 
 /// Runs the program over boxes that share one space.
-fn run_sharing<R: Wait + Clone + Send + Drop>(
+fn run_sharing<R: Threads + Wait + Clone + Send + Sync + Drop>(
     rt: &HostRuntime,
     waiting: &R,
 ) -> Result<u8, NoMemory> {
     let shelf = SharedSpace::shelf(waiting, rt.alloc())?;
-    run_on_streams(rt, shelf)
+    run_on_streams(rt, waiting, shelf)
 }
 
 fn main(rt: HostRuntime) -> ExitCode {

@@ -1,16 +1,21 @@
 //! The top call: all that the program does, over a source, a sink and a shelf of hooks.
 
-ghost use Rattle.std.specs.Prelude.{◌≡◌, ◌⊎◌, ℕ, [], map, string_bytes};
+ghost use Rattle.std.specs.Prelude.{◌≡◌, ◌⊎◌, ℕ, Bool, [], None, map, string_bytes};
 ghost use Rattle.replay_run.specs.declared.replays.Closing.{Closing};
-ghost use Rattle.jarena.specs.Runs.{Checks, OnlyTellsUsage, Replays, Soaks, run_facts, sink_facts, source_facts};
-ghost use Rattle.jarena.specs.Words.{IsCheck, IsInNoList, IsReplay, IsSoak};
+ghost use Rattle.jarena.specs.Runs.{Checks, OnlyTellsUsage, Replays, RunsThreads, Soaks, run_facts, sink_facts, source_facts};
+ghost use Rattle.jarena.specs.Words.{IsCheck, IsInNoList, IsReplay, IsSoak, IsThreads};
 
 use crate::checks::check_journals;
 use crate::words::{Asked, asked_by, tell_usage};
+use chunk_table::ChunkBook;
 use edge_io::{Sink, Source};
 use hook_api::{Askeds, ExtentHooks, HookShelf, Journals};
+use journal_check::laws::{printed_journals_are_accepted, texts_are_passed_over};
+use phase_run::{Threaded, threads};
 use replay_run::{Replayed, replay, soak};
 use std::alloc::Global;
+use std::sync::Wait;
+use std::thread::Threads;
 use trace_soak::Lines;
 
 /// What a run of the program leaves.
@@ -24,6 +29,8 @@ pub struct Outcome<H: ExtentHooks> {
     pub journals: Journals,
     /// Every ask of the run, in order; none where the words ask for no run of calls.
     pub heard: Askeds,
+    /// The chunks that each arena owned at the end, where threads hand journals back.
+    pub chunks: Option<ChunkBook>,
 }
 
 /// The outcome of a run that carried lines out.
@@ -32,12 +39,31 @@ fn outcome_of<H: ExtentHooks>(replayed: Replayed<H>) -> Outcome<H>
     ensures shelf { result.shelf ≡ replayed.shelf }
     ensures journals { result.journals ≡ replayed.journals }
     ensures heard { result.heard ≡ replayed.heard }
+    ensures chunks { result.chunks ≡ None }
 {
     Outcome {
         status: replayed.status,
         shelf: replayed.shelf,
         journals: replayed.journals,
         heard: replayed.heard,
+        chunks: None,
+    }
+}
+
+/// The outcome of a run of threads.
+fn of_threads<H: ExtentHooks>(alloc: Global, threaded: Threaded<H>) -> Outcome<H>
+    ensures status { result.status ≡ threaded.status }
+    ensures shelf { result.shelf ≡ threaded.shelf }
+    ensures journals { result.journals ≡ threaded.journals }
+    ensures heard { result.heard ≡ [] }
+    ensures chunks { result.chunks ≡ threaded.chunks }
+{
+    Outcome {
+        status: threaded.status,
+        shelf: threaded.shelf,
+        journals: threaded.journals,
+        heard: Askeds::new(alloc),
+        chunks: threaded.chunks,
     }
 }
 
@@ -47,12 +73,14 @@ fn untouched<H: ExtentHooks>(alloc: Global, status: u8, shelf: HookShelf<H>) -> 
     ensures shelf { result.shelf ≡ shelf }
     ensures journals { result.journals ≡ [] }
     ensures heard { result.heard ≡ [] }
+    ensures chunks { result.chunks ≡ None }
 {
     Outcome {
         status,
         shelf,
         journals: Journals::none(alloc),
         heard: Askeds::new(alloc),
+        chunks: None,
     }
 }
 
@@ -61,26 +89,34 @@ fn untouched<H: ExtentHooks>(alloc: Global, status: u8, shelf: HookShelf<H>) -> 
 /// Where the words are exactly `replay`, it carries out the lines of the source and prints what they answer, and a count line for
 /// each live arena at the end; where they are exactly `replay --json`, one line of JSON in place of these. Where they are exactly
 /// `soak START CALLS`, it carries out lines that are drawn, and prints the counts at their end. Where they are exactly
+/// `threads`, it reads all lines of the source, carries them out with the clients of each phase beside each other, and prints the
+/// summary of the journals; with `--journal` the journals follow. Where they are exactly
 /// `check`, it judges the lines of the source as printed journals. Where they are in no list, it writes the usage line and gives
 /// status 2, or 5 where the sink failed, and does nothing else.
-pub fn run<S: Source, K: Sink, H: ExtentHooks>(
+pub fn run<R: Threads + Wait + Sync, S: Source, K: Sink, H: ExtentHooks + Send>(
+    rt: &R,
     alloc: Global,
     words: &[String],
     source: &mut S,
     sink: &mut K,
     shelf: HookShelf<H>,
 ) -> Outcome<H>
-    ensures usage { IsInNoList (map string_bytes words.now) → OnlyTellsUsage (run_facts result.status result.shelf result.journals result.heard) shelf
+    ensures usage { IsInNoList (map string_bytes words.now) → OnlyTellsUsage (run_facts result.status result.shelf result.journals result.heard result.chunks) shelf
         (sink_facts (K.held sink.old) (K.faults sink.old) (K.waits sink.old)) (sink_facts (K.held sink.new) (K.faults sink.new) (K.waits sink.new)) }
     ensures status_2 { result.status ≡ 2 → IsInNoList (map string_bytes words.now) }
-    ensures unread { ((form : Closing) × IsReplay (map string_bytes words.now) form) ⊎ (IsCheck (map string_bytes words.now) ⊎ (source.new ≡ source.old)) }
-    ensures replay { (form : Closing) → IsReplay (map string_bytes words.now) form → Replays form (run_facts result.status result.shelf result.journals result.heard) shelf
+    ensures unread { ((form : Closing) × IsReplay (map string_bytes words.now) form) ⊎ (((with_journals : Bool) × IsThreads (map string_bytes words.now) with_journals)
+        ⊎ (IsCheck (map string_bytes words.now) ⊎ (source.new ≡ source.old))) }
+    ensures replay { (form : Closing) → IsReplay (map string_bytes words.now) form → Replays form (run_facts result.status result.shelf result.journals result.heard result.chunks) shelf
         (source_facts (S.left source.old) (S.ended source.old) (S.faults source.old)) (source_facts (S.left source.new) (S.ended source.new) (S.faults source.new))
         (sink_facts (K.held sink.old) (K.faults sink.old) (K.waits sink.old)) (sink_facts (K.held sink.new) (K.faults sink.new) (K.waits sink.new)) }
     ensures soak { (start : ℕ) (calls : ℕ) → IsSoak (map string_bytes words.now) start calls
-        → Soaks start calls (run_facts result.status result.shelf result.journals result.heard) shelf
+        → Soaks start calls (run_facts result.status result.shelf result.journals result.heard result.chunks) shelf
         (sink_facts (K.held sink.old) (K.faults sink.old) (K.waits sink.old)) (sink_facts (K.held sink.new) (K.faults sink.new) (K.waits sink.new)) }
-    ensures check { IsCheck (map string_bytes words.now) → Checks (run_facts result.status result.shelf result.journals result.heard) shelf
+    ensures threads { (with_journals : Bool) → IsThreads (map string_bytes words.now) with_journals
+        → RunsThreads with_journals (run_facts result.status result.shelf result.journals result.heard result.chunks) shelf
+        (source_facts (S.left source.old) (S.ended source.old) (S.faults source.old)) (source_facts (S.left source.new) (S.ended source.new) (S.faults source.new))
+        (sink_facts (K.held sink.old) (K.faults sink.old) (K.waits sink.old)) (sink_facts (K.held sink.new) (K.faults sink.new) (K.waits sink.new)) }
+    ensures check { IsCheck (map string_bytes words.now) → Checks (run_facts result.status result.shelf result.journals result.heard result.chunks) shelf
         (source_facts (S.left source.old) (S.ended source.old) (S.faults source.old)) (source_facts (S.left source.new) (S.ended source.new) (S.faults source.new))
         (sink_facts (K.held sink.old) (K.faults sink.old) (K.waits sink.old)) (sink_facts (K.held sink.new) (K.faults sink.new) (K.waits sink.new)) }
 {
@@ -90,6 +126,12 @@ pub fn run<S: Source, K: Sink, H: ExtentHooks>(
             outcome_of(soak(alloc, Lines::new(start, calls), sink, shelf))
         }
         Asked::Check => untouched(alloc, check_journals(alloc, source, sink), shelf),
+        Asked::Threads { with_journals } => {
+            printed_journals_are_accepted();
+            texts_are_passed_over();
+            let threaded = threads(rt, alloc, source, sink, shelf, with_journals);
+            of_threads(alloc, threaded)
+        }
         Asked::Nothing => untouched(alloc, tell_usage(sink), shelf),
     }
 }

@@ -32,6 +32,24 @@ const ACCEPTED: &str =
 const NO_ENTRIES: &str =
     "arena 0 entries 0 allocated 0 active 0 dirty 0 muzzy 0 retained 0 flight 0 mapped 0\naccepted 0\n";
 
+const PHASE: &str = "phase\nt0 malloc a 20000\njoin\n";
+
+const SUMMARY: &str =
+    "arena 0 entries 4 allocated 20480 active 20480 dirty 0 muzzy 0 retained 2076672 flight 0 mapped 20480\n\
+    threads 1 phases 1 calls 1 failed 0\n";
+
+const WITH_JOURNALS: &str =
+    "arena 0 entries 4 allocated 20480 active 20480 dirty 0 muzzy 0 retained 2076672 flight 0 mapped 20480\n\
+    threads 1 phases 1 calls 1 failed 0\n\
+    0 0 look 5 1\n\
+    0 0 growdone alloc - 512 512 0 placed 512 1 1 -\n\
+    0 0 cutdone split 512 512 5 done 1\n\
+    0 0 land 512 5 37 1\n";
+
+const NO_PHASES: &str =
+    "arena 0 entries 0 allocated 0 active 0 dirty 0 muzzy 0 retained 0 flight 0 mapped 0\n\
+    threads 0 phases 0 calls 0 failed 0\n";
+
 const MEETING: &str = "0 0 look 5 1\n\
     0 0 growdone alloc - 512 512 0 placed 512 1 1 -\n\
     1 0 set live 1 10000 0 0\n\
@@ -105,25 +123,26 @@ fn texts(alloc: Global, words: &[&str]) -> Result<Vec<String>, NoMemory> {
 }
 
 /// Runs the program over a shelf, and gives what came of that.
-fn outcome_over<H: ExtentHooks>(
-    alloc: Global,
+fn outcome_over<H: ExtentHooks + Send>(
+    rt: &HostRuntime,
     given: Given<'_>,
     shelf: HookShelf<H>,
 ) -> Result<Outcome, NoMemory> {
+    let alloc = rt.alloc();
     let words = texts(alloc, given.words)?;
     let input = given.input.as_bytes().to_vec(alloc)?;
     let mut source = MemSource::new(input, given.reads.to_vec(alloc)?);
     let mut sink = MemSink::new(alloc, given.writes.to_vec(alloc)?);
-    let run = run(alloc, &words, &mut source, &mut sink, shelf);
+    let run = run(rt, alloc, &words, &mut source, &mut sink, shelf);
     let handed = [run.journals.as_slice().len(), run.heard.len()];
     let output = String::from_utf8_lossy(alloc, sink.held())?;
     Ok((run.status, output, handed))
 }
 
 /// Runs the program over boxes that place one range behind the other.
-fn outcome(alloc: Global, given: Given<'_>) -> Result<Outcome, NoMemory> {
-    let shelf = rising(alloc)?;
-    outcome_over(alloc, given, shelf)
+fn outcome(rt: &HostRuntime, given: Given<'_>) -> Result<Outcome, NoMemory> {
+    let shelf = rising(rt.alloc())?;
+    outcome_over(rt, given, shelf)
 }
 
 #[test]
@@ -143,13 +162,13 @@ fn words_in_no_list_get_the_usage_line(rt: HostRuntime) -> Result<(), Fail> {
             reads: &[],
             writes: &[],
         };
-        let (status, output, handed) = outcome(rt.alloc(), given)?;
+        let (status, output, handed) = outcome(&rt, given)?;
         assert_eq!(rt; (status, output.as_str(), handed), (2, USAGE, [0, 0]));
         let failing = Given {
             writes: &[1],
             ..given
         };
-        let (status, output, handed) = outcome(rt.alloc(), failing)?;
+        let (status, output, handed) = outcome(&rt, failing)?;
         assert_eq!(rt; (status, output.as_str(), handed), (5, "", [0, 0]));
     }
     Ok(())
@@ -163,7 +182,7 @@ fn a_soak_prints_its_counts_alone(rt: HostRuntime) -> Result<(), Fail> {
         reads: &[1],
         writes: &[],
     };
-    let (status, output, handed) = outcome(rt.alloc(), given)?;
+    let (status, output, handed) = outcome(&rt, given)?;
     assert_eq!(rt; (status, handed), (0, [32, 0]));
     let expected = format!(in rt.alloc(); "{EMPTY}calls 0 ok 0 failed 0\n")?;
     assert_eq!(rt; output.as_str(), expected.as_str());
@@ -174,8 +193,54 @@ fn a_soak_prints_its_counts_alone(rt: HostRuntime) -> Result<(), Fail> {
         writes: &[1],
         ..given
     };
-    let (status, output, handed) = outcome(rt.alloc(), given)?;
+    let (status, output, handed) = outcome(&rt, given)?;
     assert_eq!(rt; (status, output.as_str(), handed), (5, "", [32, 3]));
+    Ok(())
+}
+
+#[test]
+fn threads_tell_what_their_journals_leave(rt: HostRuntime) -> Result<(), Fail> {
+    // The words, the input, the reads and writes that fail; then the status, the output, and how many journals are handed out.
+    let rows: [(&[&str], &str, &[u64], &[u64], u8, &str, usize); 9] = [
+        (&["threads"], PHASE, &[], &[], 0, SUMMARY, 32),
+        (
+            &["threads", "--journal"],
+            PHASE,
+            &[],
+            &[],
+            0,
+            WITH_JOURNALS,
+            32,
+        ),
+        (&["threads"], "", &[], &[], 0, NO_PHASES, 32),
+        (&["threads"], LINE, &[], &[], 3, "line 1: phase\n", 0),
+        (
+            &["threads"],
+            "phase\nt32 flush\n",
+            &[],
+            &[],
+            7,
+            "line 2: limit threads\n",
+            0,
+        ),
+        (&["threads"], "phase\njoin", &[], &[], 3, "line 2: cut\n", 0),
+        (&["threads"], PHASE, &[1], &[], 4, "", 0),
+        (&["threads"], PHASE, &[], &[1], 5, "", 32),
+        (&["threads"], LINE, &[], &[1], 5, "", 0),
+    ];
+    for (words, input, reads, writes, status, text, journals) in rows {
+        let given = Given {
+            words,
+            input,
+            reads,
+            writes,
+        };
+        let (told, output, handed) = outcome(&rt, given)?;
+        assert_eq!(rt;
+            (told, output.as_str(), handed),
+            (status, text, [journals, 0])
+        );
+    }
     Ok(())
 }
 
@@ -211,7 +276,7 @@ fn a_check_tells_its_verdict(rt: HostRuntime) -> Result<(), Fail> {
             reads,
             writes,
         };
-        let (told, output, handed) = outcome(rt.alloc(), given)?;
+        let (told, output, handed) = outcome(&rt, given)?;
         assert_eq!(rt; (told, output.as_str(), handed), (status, text, [0, 0]));
     }
     Ok(())
@@ -233,7 +298,7 @@ fn a_replay_hands_out_what_it_did(rt: HostRuntime) -> Result<(), Fail> {
             reads,
             writes,
         };
-        let (seen, output, handed) = outcome(rt.alloc(), given)?;
+        let (seen, output, handed) = outcome(&rt, given)?;
         assert_eq!(rt; (seen, handed), (status, [32, asks]));
         let expected = format!(in rt.alloc(); "{answer}{counts}")?;
         assert_eq!(rt; output.as_str(), expected.as_str());
@@ -271,7 +336,7 @@ fn wrong_ranges_are_told(rt: HostRuntime) -> Result<(), Fail> {
             reads: &[],
             writes: &[],
         };
-        let (status, output, _) = outcome_over(rt.alloc(), given, lying(rt.alloc(), first)?)?;
+        let (status, output, _) = outcome_over(&rt, given, lying(rt.alloc(), first)?)?;
         assert_eq!(rt; (status, output.as_str()), (0, report));
     }
     Ok(())
@@ -299,7 +364,7 @@ fn a_flush_that_fails_is_a_write_that_failed(rt: HostRuntime) -> Result<(), Fail
             failing,
         });
         let words = texts(alloc, words)?;
-        let run = run(alloc, &words, &mut source, &mut sink, rising(alloc)?);
+        let run = run(&rt, alloc, &words, &mut source, &mut sink, rising(alloc)?);
         assert_eq!(rt; run.status, status);
     }
     Ok(())
@@ -320,7 +385,7 @@ fn a_limit_comes_before_a_read_that_fails(rt: HostRuntime) -> Result<(), Fail> {
             reads: &[2],
             writes: &[],
         };
-        let (seen, output, handed) = outcome(rt.alloc(), given)?;
+        let (seen, output, handed) = outcome(&rt, given)?;
         assert_eq!(rt; (seen, output.as_str(), handed), (status, report, [32, 0]));
     }
     Ok(())

@@ -3,7 +3,7 @@
 ghost use Rattle.std.specs.Prelude.{◌≡◌, ◌≢◌, ◌∷◌, [], ℕ, false, ◌^◌, ◌<◌, ◌↔◌, IfNone, IfSome, IsTrue, MatchOption, map, string_bytes};
 ghost use Rattle.std.specs.Fmt.{decimal};
 ghost use Rattle.jarena.specs.Runs.{TellsUsage, sink_facts};
-ghost use Rattle.jarena.specs.Words.{IsAsked, IsNoReplay, IsNoSoak, IsReplay, IsSoak};
+ghost use Rattle.jarena.specs.Words.{IsAsked, IsNoReplay, IsNoSoak, IsNoThreads, IsReplay, IsSoak, IsThreads};
 
 use crate::status::{BAD_WORDS, SINK_FAILED};
 use edge_io::{Failed, Sink, write_whole};
@@ -25,6 +25,8 @@ pub(crate) enum Asked {
     Soak { start: u64, calls: u64 },
     /// A check of journals.
     Check,
+    /// A run of threads, with the journals printed at its end or without.
+    Threads { with_journals: bool },
 }
 
 /// What the words, without the program's name, ask for.
@@ -33,6 +35,9 @@ pub(crate) fn asked_by(words: &[String]) -> Asked
 {
     if let Some(closing) = replay_asked(words) {
         return Asked::Replay(closing);
+    }
+    if let Some(with_journals) = threads_asked(words) {
+        return Asked::Threads { with_journals };
     }
     if is_word(words, "check") {
         return Asked::Check;
@@ -51,6 +56,19 @@ fn replay_asked(words: &[String]) -> Option<Closing>
         [word] if word.as_str() == "replay" => Some(Closing::Lines),
         [word, option] if word.as_str() == "replay" && option.as_str() == "--json" => {
             Some(Closing::Json)
+        }
+        _ => None,
+    }
+}
+
+/// Whether the journals are to be printed, where the words are exactly `threads` or `threads --journal`.
+fn threads_asked(words: &[String]) -> Option<bool>
+    ensures { MatchOption result (IsNoThreads (map string_bytes words.now)) (IsThreads (map string_bytes words.now)) }
+{
+    match words {
+        [word] if word.as_str() == "threads" => Some(false),
+        [word, option] if word.as_str() == "threads" && option.as_str() == "--journal" => {
+            Some(true)
         }
         _ => None,
     }

@@ -1,6 +1,9 @@
-use Rattle.std.proofs.Common.{inl, inr, refl, sym, ◌∙◌, arith}
+use Rattle.std.proofs.Common.{inl, inr, refl, sym, ◌∙◌, arith, subst}
+use Rattle.std.specs.Prelude.{IsTrue}
+use Rattle.jarena.proofs.Accepting.{threads_accepted}
 use Rattle.jarena.proofs.Completing.{replay_completes, soak_completes}
-use Rattle.jarena.proofs.Lists.{check_in_list, check_no_replay, check_no_soak, replay_form, replay_in_list, replay_no_soak, soak_calls, soak_in_list, soak_start}
+use Rattle.jarena.proofs.Lists.{check_in_list, check_no_replay, check_no_soak, replay_form, replay_in_list, replay_no_soak, soak_calls, soak_in_list, soak_start, threads_form, threads_in_list, threads_no_check, threads_no_replay, threads_no_soak}
+use Rattle.jarena.proofs.Threading.{threads_not_usage}
 use Rattle.jarena.proofs.runs.run.Goals as goal
 
 -- ---- a replay
@@ -18,7 +21,7 @@ pub returns-in-Replay-clause-replay : goal.returns-in-Replay-clause-replay
 returns-in-Replay-clause-replay g c = λ form is.
     let told = rw (replay_form _ c.in-Replay.closing form c.in-Replay.ensures is) at c.replay.ensures in
     let out = c.outcome_of.ensures in
-    rw (out.status, out.shelf, out.journals, out.heard) (record {
+    rw (out.status, out.shelf, out.journals, out.heard, out.chunks) (record {
       journals = told.replay.0;
       replay = told.replay.1;
       hands_out = told.replay.2;
@@ -29,6 +32,7 @@ returns-in-Replay-clause-replay g c = λ form is.
       handed_on = told.handed_on;
       known = told.known;
       completes = replay_completes told.replay.1 told.known told.read_fault told.write_fault;
+      no_chunks = refl;
     })
 
 pub returns-in-Replay-clause-soak : goal.returns-in-Replay-clause-soak
@@ -36,6 +40,9 @@ returns-in-Replay-clause-soak g c = λ start calls is. absurd (replay_no_soak _ 
 
 pub returns-in-Replay-clause-check : goal.returns-in-Replay-clause-check
 returns-in-Replay-clause-check g c = λ is. absurd (check_no_replay _ c.in-Replay.closing is c.in-Replay.ensures)
+
+pub returns-in-Replay-clause-threads : goal.returns-in-Replay-clause-threads
+returns-in-Replay-clause-threads g c = λ with_journals is. absurd (threads_no_replay _ with_journals _ is c.in-Replay.ensures)
 
 -- ---- a soak
 
@@ -46,7 +53,7 @@ pub returns-in-Soak-clause-status_2 : goal.returns-in-Soak-clause-status_2
 returns-in-Soak-clause-status_2 g c = λ two. absurd (omega (arith, two, c.outcome_of-in-Soak.ensures.status, c.soak.ensures.known))
 
 pub returns-in-Soak-clause-unread : goal.returns-in-Soak-clause-unread
-returns-in-Soak-clause-unread g c = inr (inr refl)
+returns-in-Soak-clause-unread g c = inr (inr (inr refl))
 
 pub returns-in-Soak-clause-replay : goal.returns-in-Soak-clause-replay
 returns-in-Soak-clause-replay g c = λ form is. absurd (replay_no_soak _ form _ _ is c.in-Soak.ensures)
@@ -65,10 +72,43 @@ returns-in-Soak-clause-soak g c = λ start calls is.
       handed_on = λ zero. told.handed_on (sym out.status ∙ zero);
       known = rw out.status told.known;
       completes = rw out.status (soak_completes c.soak.result.status told.known told.write_fault);
+      no_chunks = out.chunks;
     }
 
 pub returns-in-Soak-clause-check : goal.returns-in-Soak-clause-check
 returns-in-Soak-clause-check g c = λ is. absurd (check_no_soak _ _ _ is c.in-Soak.ensures)
+
+pub returns-in-Soak-clause-threads : goal.returns-in-Soak-clause-threads
+returns-in-Soak-clause-threads g c = λ with_journals is. absurd (threads_no_soak _ with_journals _ _ is c.in-Soak.ensures)
+
+-- ---- a run of threads
+
+pub returns-in-Threads-clause-usage : goal.returns-in-Threads-clause-usage
+returns-in-Threads-clause-usage g c = λ none. absurd (threads_in_list _ _ c.in-Threads.ensures none)
+
+pub returns-in-Threads-clause-status_2 : goal.returns-in-Threads-clause-status_2
+returns-in-Threads-clause-status_2 g c = λ two. absurd (threads_not_usage _ _ _ _ _ _ _ _ _ _ c.threads-threaded.ensures.runs (sym c.of_threads.ensures.status ∙ two))
+
+pub returns-in-Threads-clause-unread : goal.returns-in-Threads-clause-unread
+returns-in-Threads-clause-unread g c = inr (inl (c.in-Threads.with_journals, c.in-Threads.ensures))
+
+pub returns-in-Threads-clause-replay : goal.returns-in-Threads-clause-replay
+returns-in-Threads-clause-replay g c = λ form is. absurd (threads_no_replay _ _ form c.in-Threads.ensures is)
+
+pub returns-in-Threads-clause-soak : goal.returns-in-Threads-clause-soak
+returns-in-Threads-clause-soak g c = λ start calls is. absurd (threads_no_soak _ _ start calls c.in-Threads.ensures is)
+
+pub returns-in-Threads-clause-threads : goal.returns-in-Threads-clause-threads
+returns-in-Threads-clause-threads g c = λ with_journals is.
+    let out = c.of_threads.ensures in record {
+      runs = rw (threads_form _ with_journals c.in-Threads.with_journals is c.in-Threads.ensures, out.status, out.shelf, out.journals, out.chunks) c.threads-threaded.ensures.runs;
+      unheard = out.heard;
+      accepted = λ journals zero. threads_accepted c.printed_journals_are_accepted.ensures c.texts_are_passed_over.ensures.line c.texts_are_passed_over.ensures.together c.in-Threads.with_journals _ _ _ _ _ _ _ _ _ c.threads-threaded.ensures.runs
+          (subst IsTrue (threads_form _ with_journals c.in-Threads.with_journals is c.in-Threads.ensures) journals) (sym out.status ∙ zero);
+    }
+
+pub returns-in-Threads-clause-check : goal.returns-in-Threads-clause-check
+returns-in-Threads-clause-check g c = λ is. absurd (threads_no_check _ _ c.in-Threads.ensures is)
 
 -- ---- a check
 
@@ -79,7 +119,7 @@ pub returns-in-Check-clause-status_2 : goal.returns-in-Check-clause-status_2
 returns-in-Check-clause-status_2 g c = λ two. absurd (c.check_journals.ensures.not_usage (sym c.untouched.ensures.status ∙ two))
 
 pub returns-in-Check-clause-unread : goal.returns-in-Check-clause-unread
-returns-in-Check-clause-unread g c = inr (inl c.in-Check.ensures)
+returns-in-Check-clause-unread g c = inr (inr (inl c.in-Check.ensures))
 
 pub returns-in-Check-clause-replay : goal.returns-in-Check-clause-replay
 returns-in-Check-clause-replay g c = λ form is. absurd (check_no_replay _ form c.in-Check.ensures is)
@@ -93,8 +133,12 @@ returns-in-Check-clause-check g c = λ is.
       checks = rw out.status c.check_journals.ensures.checked;
       unasked = out.heard;
       no_journals = out.journals;
+      no_chunks = out.chunks;
       same_shelf = out.shelf;
     }
+
+pub returns-in-Check-clause-threads : goal.returns-in-Check-clause-threads
+returns-in-Check-clause-threads g c = λ with_journals is. absurd (threads_no_check _ with_journals is c.in-Check.ensures)
 
 -- ---- words in no list
 
@@ -102,7 +146,7 @@ pub returns-in-Nothing-clause-status_2 : goal.returns-in-Nothing-clause-status_2
 returns-in-Nothing-clause-status_2 g c = λ two. c.in-Nothing.ensures
 
 pub returns-in-Nothing-clause-unread : goal.returns-in-Nothing-clause-unread
-returns-in-Nothing-clause-unread g c = inr (inr refl)
+returns-in-Nothing-clause-unread g c = inr (inr (inr refl))
 
 pub returns-in-Nothing-clause-replay : goal.returns-in-Nothing-clause-replay
 returns-in-Nothing-clause-replay g c = λ form is. absurd (replay_in_list _ form is c.in-Nothing.ensures)
@@ -112,3 +156,6 @@ returns-in-Nothing-clause-soak g c = λ start calls is. absurd (soak_in_list _ s
 
 pub returns-in-Nothing-clause-check : goal.returns-in-Nothing-clause-check
 returns-in-Nothing-clause-check g c = λ is. absurd (check_in_list _ is c.in-Nothing.ensures)
+
+pub returns-in-Nothing-clause-threads : goal.returns-in-Nothing-clause-threads
+returns-in-Nothing-clause-threads g c = λ with_journals is. absurd (threads_in_list _ with_journals is c.in-Nothing.ensures)
