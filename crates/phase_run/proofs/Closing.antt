@@ -37,6 +37,8 @@ use Rattle.phase_run.specs.Crews.{AllCarried, AreFrom, HasGained, stand_of}
 use Rattle.phase_run.specs.Threads.{AreCarried, CarriedOut, IsJournalOf, numbers_of, refused_in, refused_of}
 use Rattle.phase_run.specs.declared.summaries.Numbers.{Numbers}
 use Rattle.phase_run.specs.declared.crews.Crew.{Crew}
+use Rattle.phase_run.specs.Stands.{opening_stand}
+use Rattle.phase_run.proofs.Carrying.{parts_carry}
 use Rattle.phase_run.proofs.Setting.{client_at}
 
 all_map : {X Y : Type 0} (f : X → Y) (P : X → Type 0) (Q : Y → Type 0) → ((x : X) → P x → Q (f x)) → (xs : List X) → All P xs → All Q (map f xs)
@@ -147,6 +149,7 @@ module _ {H : Type 0} (shelf shelf' : SharedShelf H) (heap : SharedHeap) (seats 
           (ap (λ (seat : AskSeat). seat.places) (began c low).seat ∙ (all_there (λ (seat : AskSeat). IsSeatOf shelf seat × IsNewSeat seat) seats c (seat_at c low).0 fresh (seat_at c low).1).1.0)
           (gained c low).asks,
     );
+    entered = λ c low. parts_carry (opening_stand (orders_of shelf)) parts all.dones (stand_of (orders_of shelf') crew) all.walks c;
     table = arc_value heap.table;
     count = has.count;
     each = journal_is;

@@ -9,5 +9,6 @@ pub mod Phasing
 pub mod Setting
 pub mod Parting
 pub mod Opening
+pub mod Carrying
 pub mod Closing
 pub mod Telling

@@ -1,5 +1,5 @@
 -- What a run of threads does and leaves.
-use Rattle.std.specs.Prelude.{◌≡◌, ◌≢◌, ◌⊎◌, ℕ, ◌+◌, ◌<◌, ◌≤◌, Bool, true, false, IsTrue, List, [], Option, None, Some, length, map, replicate, slice_get, slice_index, slice_index_or, IfSome}
+use Rattle.std.specs.Prelude.{◌≡◌, ◌≢◌, ◌⊎◌, ℕ, ◌+◌, ◌<◌, ◌≤◌, Bool, true, false, IsTrue, List, [], ◌∷◌, ◌++◌, Option, None, Some, length, map, replicate, slice_get, slice_index, slice_index_or, IfSome}
 use Rattle.std.specs.List.{All, AllByRecursion, count_by, range_with_len, sum_by}
 use Rattle.chunk_table.specs.Rule.{owns}
 use Rattle.chunk_table.specs.Tables.{accounts}
@@ -7,12 +7,13 @@ use Rattle.chunk_table.specs.declared.table.ChunkBook.{ChunkBook}
 use Rattle.chunk_table.specs.declared.table.ChunkTable.{ChunkTable}
 use Rattle.chunk_table.specs.declared.view.Share.{Share}
 use Rattle.chunk_table.specs.declared.view.Taken.{Taken}
-use Rattle.deeds.specs.Dids.{HaveNext, asks_of}
+use Rattle.deeds.specs.Dids.{Did, HaveNext, asks_of, carried}
 use Rattle.edge_io.specs.Bytes.{Appends, AppendsPrefix, Rose}
 use Rattle.heap_runs.specs.Closes.{AreApart, counts_left, space_left}
 use Rattle.heap_runs.specs.Heaps.{counted_by}
 use Rattle.heap_runs.specs.Walks.{Done, dids_of}
 use Rattle.heap_runs.specs.declared.closes.Closed.{Closed}
+use Rattle.hook_api.specs.Asked.{AskFacts}
 use Rattle.hook_api.specs.Seats.{refused_at}
 use Rattle.hook_api.specs.Shared.{HasCounted, IsSeatOf, orders_of}
 use Rattle.hook_api.specs.declared.shared.SharedShelf.{SharedShelf}
@@ -101,6 +102,16 @@ pub record IsJournalOf (table : ChunkTable) (dones : List (List Done)) (book : C
 abbrev pub AreThose : List Orders → Shelf → Type 0
 AreThose orders shelf = (n : ℕ) → n < 32 → (kind : Kind) → had_of (slice_index_or orders n no_orders) (Some kind) ≡ is_set (plan_at (box_at shelf n).book.plans kind)
 
+-- the ask that an entry carries, if it carries one
+abbrev pub ask_in : Option AskFacts → List AskFacts
+ask_in None = []
+ask_in (Some asked) = asked ∷ []
+
+-- the asks that the entries carry of what was done, in order
+abbrev pub carried_of : List Did → List AskFacts
+carried_of [] = []
+carried_of (did ∷ dids) = ask_in (carried did) ++ carried_of dids
+
 -- how many asks of a client's calls a box refused by itself, up to 2^58
 abbrev pub refused_of : List (List Done) → ℕ → ℕ → ℕ
 refused_of dones n c = slice_index (counted_by (replicate 32 0) (asks_of (dids_of (slice_index_or dones c [])))) n
@@ -110,12 +121,13 @@ abbrev pub refused_in : List (List Done) → ℕ → ℕ
 refused_in dones n = sum_by (refused_of dones n) (range_with_len 0 32)
 
 -- The parts of a trace were carried out by its clients over boxes that have had these plans, and the journals are just what they did. The asks
--- of a client have the places of its own from 0 on, each once, of each box. No chunk is owned by two arenas, and no page is in the spaces
+-- of a client have the places of its own from 0 on, each once, of each box, and each of them is carried by the entry behind it. No chunk is owned by two arenas, and no page is in the spaces
 -- that two journals leave.
 pub record AreCarried (orders : List Orders) (parts : List Part) (last : Stand) (journals : List Journal) (book : ChunkBook) : Type 0 where
   pub dones : List (List Done)
   pub walks : WalksParts (opening_stand orders) parts dones last
   pub places : (c : ℕ) → c < 32 → (places : List ℕ) × HaveNext (replicate 32 0) (asks_of (dids_of (slice_index_or dones c []))) places
+  pub entered : (c : ℕ) → c < 32 → asks_of (dids_of (slice_index_or dones c [])) ≡ carried_of (dids_of (slice_index_or dones c []))
   pub table : ChunkTable
   pub count : length journals ≡ 32
   pub each : (i : ℕ) (journal : Journal) → slice_get journals i ≡ Some journal → IsJournalOf table dones book i journal
