@@ -10,7 +10,6 @@ use crate::words::{Asked, asked_by, tell_usage};
 use chunk_table::ChunkBook;
 use edge_io::{Sink, Source};
 use hook_api::{Askeds, ExtentHooks, HookShelf, Journals};
-use journal_check::laws::{printed_journals_are_accepted, texts_are_passed_over};
 use phase_run::{Threaded, threads};
 use replay_run::{Replayed, replay, soak};
 use std::alloc::Global;
@@ -127,8 +126,6 @@ pub fn run<R: Threads + Wait + Sync, S: Source, K: Sink, H: ExtentHooks + Send>(
         }
         Asked::Check => untouched(alloc, check_journals(alloc, source, sink), shelf),
         Asked::Threads { with_journals } => {
-            printed_journals_are_accepted();
-            texts_are_passed_over();
             let threaded = threads(rt, alloc, source, sink, shelf, with_journals);
             of_threads(alloc, threaded)
         }

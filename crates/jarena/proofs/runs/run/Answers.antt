@@ -103,7 +103,7 @@ returns-in-Threads-clause-threads g c = λ with_journals is.
     let out = c.of_threads.ensures in record {
       runs = rw (threads_form _ with_journals c.in-Threads.with_journals is c.in-Threads.ensures, out.status, out.shelf, out.journals, out.chunks) c.threads-threaded.ensures.runs;
       unheard = out.heard;
-      accepted = λ journals zero. threads_accepted c.printed_journals_are_accepted.ensures c.texts_are_passed_over.ensures.line c.texts_are_passed_over.ensures.together c.in-Threads.with_journals _ _ _ _ _ _ _ _ _ c.threads-threaded.ensures.runs
+      accepted = λ journals zero. threads_accepted c.in-Threads.with_journals _ _ _ _ _ _ _ _ _ c.threads-threaded.ensures.runs
           (subst IsTrue (threads_form _ with_journals c.in-Threads.with_journals is c.in-Threads.ensures) journals) (sym out.status ∙ zero);
     }
 
