@@ -1,14 +1,17 @@
-/* Lets one call of a program fail: an allocation, a read of its standard input, or a write to its standard output. tests/outsides
- * builds it as a library that LD_PRELOAD names.
+/* Lets one call of a program fail: an allocation, a read of its standard input, a write to its standard output, or the making of a
+ * thread. tests/outsides builds it as a library that LD_PRELOAD names.
  *
- * Counted, from 1 on, are the calls of malloc, calloc and realloc that the program's own code makes, its reads of descriptor 0,
- * and its writes to descriptor 1; not those of the C library. The variables OUTSIDE_ALLOCATION, OUTSIDE_READ and OUTSIDE_WRITE
- * have the number of the call that fails, and OUTSIDE_MOST how many bytes a read or a write moves at most. A call that fails is
- * told by a byte to the descriptor in OUTSIDE_TOLD, so that whoever starts the program knows that it came so far.
+ * Counted, from 1 on, are the calls of malloc, calloc and realloc that the program's own code makes, in whichever thread, its
+ * reads of descriptor 0, its writes to descriptor 1, and the threads that are to be made; not the calls of the C library. The
+ * variables OUTSIDE_ALLOCATION, OUTSIDE_READ, OUTSIDE_WRITE and OUTSIDE_THREAD have the number of the call that fails, and
+ * OUTSIDE_MOST how many bytes a read or a write moves at most. A call that fails is told by a byte to the descriptor in
+ * OUTSIDE_TOLD, so that whoever starts the program knows that it came so far.
  */
 #define _GNU_SOURCE
+#include <dlfcn.h>
 #include <errno.h>
 #include <link.h>
+#include <pthread.h>
 #include <stddef.h>
 #include <stdlib.h>
 #include <sys/syscall.h>
@@ -23,7 +26,8 @@ struct calls {
     unsigned long made, failing;
 };
 
-static struct calls allocations, reads, writes;
+static struct calls allocations, reads, writes, threads;
+static int (*make_thread)(pthread_t *, const pthread_attr_t *, void *(*)(void *), void *);
 static size_t most = (size_t)-1;
 static int told = -1;
 static char *code, *code_end; /* where the program's own code lies */
@@ -51,17 +55,19 @@ static unsigned long number(const char *name, unsigned long otherwise)
 __attribute__((constructor)) static void begin(void)
 {
     dl_iterate_phdr(find_program, NULL);
+    *(void **)&make_thread = dlsym(RTLD_NEXT, "pthread_create");
     most = number("OUTSIDE_MOST", most);
     told = (int)number("OUTSIDE_TOLD", (unsigned long)-1);
     reads.failing = number("OUTSIDE_READ", 0);
     writes.failing = number("OUTSIDE_WRITE", 0);
+    threads.failing = number("OUTSIDE_THREAD", 0);
     allocations.failing = number("OUTSIDE_ALLOCATION", 0);
 }
 
-/* Counts a call, and tells whether it fails. */
+/* Counts a call, and tells whether it fails. (Several threads may be here at once, and each has a number of its own.) */
 static int fails(struct calls *calls, int error)
 {
-    if (calls->failing == 0 || ++calls->made != calls->failing)
+    if (calls->failing == 0 || __atomic_add_fetch(&calls->made, 1, __ATOMIC_RELAXED) != calls->failing)
         return 0;
     if (syscall(SYS_write, told, "f", 1) != 1)
         _exit(99);
@@ -102,4 +108,9 @@ ssize_t write(int into, const void *from, size_t count)
     if (into == 1 && fails(&writes, EIO))
         return -1;
     return syscall(SYS_write, into, from, into == 1 && count > most ? most : count);
+}
+
+int pthread_create(pthread_t *thread, const pthread_attr_t *how, void *(*run)(void *), void *with)
+{
+    return fails(&threads, EAGAIN) ? EAGAIN : make_thread(thread, how, run, with);
 }
