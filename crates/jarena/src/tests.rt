@@ -6,7 +6,9 @@ use edge_io::{MemSink, MemSource, WriteEdge};
 use hook_api::{ExtentHooks, HookShelf, Placed, RisingHooks};
 use std::alloc::{AllocError as NoMemory, Global};
 use std::io::{self, ErrorKind, Write};
+use std::sync::Wait;
 use std::test::Fail;
+use std::thread::Threads;
 
 const USAGE: &str =
     "usage: jarena replay [--json] | threads [--journal] | soak START CALLS | check\n";
@@ -123,12 +125,12 @@ fn texts(alloc: Global, words: &[&str]) -> Result<Vec<String>, NoMemory> {
 }
 
 /// Runs the program over a shelf, and gives what came of that.
-fn outcome_over<H: ExtentHooks + Send>(
-    rt: &HostRuntime,
+fn outcome_over<R: Threads + Wait + Sync, H: ExtentHooks + Send>(
+    rt: &R,
+    alloc: Global,
     given: Given<'_>,
     shelf: HookShelf<H>,
 ) -> Result<Outcome, NoMemory> {
-    let alloc = rt.alloc();
     let words = texts(alloc, given.words)?;
     let input = given.input.as_bytes().to_vec(alloc)?;
     let mut source = MemSource::new(input, given.reads.to_vec(alloc)?);
@@ -140,9 +142,13 @@ fn outcome_over<H: ExtentHooks + Send>(
 }
 
 /// Runs the program over boxes that place one range behind the other.
-fn outcome(rt: &HostRuntime, given: Given<'_>) -> Result<Outcome, NoMemory> {
-    let shelf = rising(rt.alloc())?;
-    outcome_over(rt, given, shelf)
+fn outcome<R: Threads + Wait + Sync>(
+    rt: &R,
+    alloc: Global,
+    given: Given<'_>,
+) -> Result<Outcome, NoMemory> {
+    let shelf = rising(alloc)?;
+    outcome_over(rt, alloc, given, shelf)
 }
 
 #[test]
@@ -162,13 +168,13 @@ fn words_in_no_list_get_the_usage_line(rt: HostRuntime) -> Result<(), Fail> {
             reads: &[],
             writes: &[],
         };
-        let (status, output, handed) = outcome(&rt, given)?;
+        let (status, output, handed) = outcome(&rt, rt.alloc(), given)?;
         assert_eq!(rt; (status, output.as_str(), handed), (2, USAGE, [0, 0]));
         let failing = Given {
             writes: &[1],
             ..given
         };
-        let (status, output, handed) = outcome(&rt, failing)?;
+        let (status, output, handed) = outcome(&rt, rt.alloc(), failing)?;
         assert_eq!(rt; (status, output.as_str(), handed), (5, "", [0, 0]));
     }
     Ok(())
@@ -182,7 +188,7 @@ fn a_soak_prints_its_counts_alone(rt: HostRuntime) -> Result<(), Fail> {
         reads: &[1],
         writes: &[],
     };
-    let (status, output, handed) = outcome(&rt, given)?;
+    let (status, output, handed) = outcome(&rt, rt.alloc(), given)?;
     assert_eq!(rt; (status, handed), (0, [32, 0]));
     let expected = format!(in rt.alloc(); "{EMPTY}calls 0 ok 0 failed 0\n")?;
     assert_eq!(rt; output.as_str(), expected.as_str());
@@ -193,7 +199,7 @@ fn a_soak_prints_its_counts_alone(rt: HostRuntime) -> Result<(), Fail> {
         writes: &[1],
         ..given
     };
-    let (status, output, handed) = outcome(&rt, given)?;
+    let (status, output, handed) = outcome(&rt, rt.alloc(), given)?;
     assert_eq!(rt; (status, output.as_str(), handed), (5, "", [32, 3]));
     Ok(())
 }
@@ -235,7 +241,7 @@ fn threads_tell_what_their_journals_leave(rt: HostRuntime) -> Result<(), Fail> {
             reads,
             writes,
         };
-        let (told, output, handed) = outcome(&rt, given)?;
+        let (told, output, handed) = outcome(&rt, rt.alloc(), given)?;
         assert_eq!(rt;
             (told, output.as_str(), handed),
             (status, text, [journals, 0])
@@ -276,7 +282,7 @@ fn a_check_tells_its_verdict(rt: HostRuntime) -> Result<(), Fail> {
             reads,
             writes,
         };
-        let (told, output, handed) = outcome(&rt, given)?;
+        let (told, output, handed) = outcome(&rt, rt.alloc(), given)?;
         assert_eq!(rt; (told, output.as_str(), handed), (status, text, [0, 0]));
     }
     Ok(())
@@ -298,7 +304,7 @@ fn a_replay_hands_out_what_it_did(rt: HostRuntime) -> Result<(), Fail> {
             reads,
             writes,
         };
-        let (seen, output, handed) = outcome(&rt, given)?;
+        let (seen, output, handed) = outcome(&rt, rt.alloc(), given)?;
         assert_eq!(rt; (seen, handed), (status, [32, asks]));
         let expected = format!(in rt.alloc(); "{answer}{counts}")?;
         assert_eq!(rt; output.as_str(), expected.as_str());
@@ -336,7 +342,7 @@ fn wrong_ranges_are_told(rt: HostRuntime) -> Result<(), Fail> {
             reads: &[],
             writes: &[],
         };
-        let (status, output, _) = outcome_over(&rt, given, lying(rt.alloc(), first)?)?;
+        let (status, output, _) = outcome_over(&rt, rt.alloc(), given, lying(rt.alloc(), first)?)?;
         assert_eq!(rt; (status, output.as_str()), (0, report));
     }
     Ok(())
@@ -385,7 +391,7 @@ fn a_limit_comes_before_a_read_that_fails(rt: HostRuntime) -> Result<(), Fail> {
             reads: &[2],
             writes: &[],
         };
-        let (seen, output, handed) = outcome(&rt, given)?;
+        let (seen, output, handed) = outcome(&rt, rt.alloc(), given)?;
         assert_eq!(rt; (seen, output.as_str(), handed), (status, report, [32, 0]));
     }
     Ok(())
