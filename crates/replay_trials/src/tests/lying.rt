@@ -56,6 +56,8 @@ fn far_ranges_are_told(rt: HostRuntime) -> Result<(), Fail> {
     // The page at which each range is placed, and what a malloc of a chunk answers then.
     let rows = [
         (33_554_176, "@1ffff00000+512 unaligned"),
+        // Half of this one lies behind the end of the space.
+        (536_870_656, "@1fffff00000+512 off space"),
         (u64::MAX, "@ffffffffffffffff000+512 off space"),
     ];
     for (first, answer) in rows {
