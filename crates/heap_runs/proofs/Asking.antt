@@ -1,5 +1,5 @@
 -- An ask that a call needs, and want of memory to name what goes back.
-use Rattle.heap_runs.proofs.Words.{◌≡◌, ℕ, ◌+◌, true, false, IsTrue, List, [], ◌∷◌, Option, Some, refl, sym, ◌∙◌, ap, subst, append-nil, arc_value, Record, Point, Go, Ask, Op, AskFacts, DeskFacts, CallFacts, moment_at, named_call, want, WantTurn, WantAsk, is_marked, AnswersTo, All-cons, All-nil, slice_index, slice_set, All, capped, kind_of, had, SharedShelf, TableId, asks-sit, starves-sit, Asked, Lacked, HaveNext, IsWanted, IsWantedAt, HasBox, HasPlan, asks_next, asks_there, IsGiving, NeedIs, NeedsAsk, box_asked, box_lacked, known, log_of, IsCtxOf, Stands, Ctx, SharedHeap, by_box, counted_by, one_more, if◌then◌else◌}
+use Rattle.heap_runs.proofs.Words.{◌≡◌, ℕ, ◌+◌, true, false, IsTrue, List, [], ◌∷◌, Option, Some, refl, sym, ◌∙◌, ap, subst, append-nil, arc_value, Record, Point, Go, Ask, Op, AskFacts, DeskFacts, CallFacts, moment_at, named_call, want, WantTurn, WantAsk, is_marked, AnswersTo, All-cons, All-nil, slice_index, slice_set, All, capped, kind_of, IsByPlanOf, plan_of_kind, SharedShelf, TableId, asks-sit, starves-sit, Asked, Lacked, HaveNext, IsWanted, IsWantedAt, HasBox, IsAsPlanned, asks_next, asks_there, IsGiving, NeedIs, NeedsAsk, box_asked, box_lacked, known, log_of, IsCtxOf, Stands, Ctx, SharedHeap, by_box, counted_by, one_more, if◌then◌else◌}
 use Rattle.heap_runs.proofs.Leaving.{Leaves}
 use Rattle.heap_runs.proofs.Needing.{ask_needed, giving_at, sits_of}
 
@@ -57,6 +57,6 @@ next_place old new asked box_no is place places =
 pub next_count : (old new : List ℕ) (asked : AskFacts) (box_no : ℕ) → asked.box_no ≡ box_no → new ≡ (if by_box asked then one_more box_no old else old) → new ≡ counted_by old (asked ∷ [])
 next_count old new asked box_no is counts = subst (λ n. new ≡ (if by_box asked then one_more n old else old)) (sym is) counts
 
--- and is planned only where there was a plan
-pub one_plan : {H : Type 0} (shelf : SharedShelf H) (asked : AskFacts) (box_no : ℕ) (ask : Ask) → asked.box_no ≡ box_no → asked.ask ≡ ask → (IsTrue asked.planned → had shelf box_no (kind_of ask) ≡ true) → All (HasPlan shelf) (asked ∷ [])
-one_plan shelf asked box_no ask of_box of_ask plan = All-cons (HasPlan shelf) asked [] (λ planned. ap (λ n. had shelf n (kind_of asked.ask)) of_box ∙ ap (λ a. had shelf box_no (kind_of a)) of_ask ∙ plan planned) (All-nil (HasPlan shelf))
+-- and is refused as planned just where the plan says so
+pub one_plan : {H : Type 0} (shelf : SharedShelf H) (asked : AskFacts) (box_no : ℕ) (ask : Ask) → asked.box_no ≡ box_no → asked.ask ≡ ask → IsByPlanOf (plan_of_kind shelf box_no (kind_of ask)) asked.planned → All (IsAsPlanned shelf) (asked ∷ [])
+one_plan shelf asked box_no ask of_box of_ask plan = All-cons (IsAsPlanned shelf) asked [] (subst (λ n. IsByPlanOf (plan_of_kind shelf n (kind_of asked.ask)) asked.planned) (sym of_box) (subst (λ a. IsByPlanOf (plan_of_kind shelf box_no (kind_of a)) asked.planned) (sym of_ask) plan)) (All-nil (IsAsPlanned shelf))

@@ -1,5 +1,5 @@
 -- What a call of a context did, one thing more.
-use Rattle.heap_runs.proofs.Words.{◌≡◌, ℕ, List, [], ◌∷◌, ◌++◌, Option, None, sym, refl, ap, ◌∙◌, subst, append_assoc, append-nil, All, All-append, All-nil, SharedShelf, Moment, Did, HasBox, HasPlan, HaveNext, Led, asks_of, told_last, took_in, taken_in, asks_more, last_more, led_more, next_more, Ctx, SharedHeap, Gains, Runs, Steps, turns_of, AskFacts, counted_by, by_box, one_more, if◌then◌else◌}
+use Rattle.heap_runs.proofs.Words.{◌≡◌, ℕ, List, [], ◌∷◌, ◌++◌, Option, None, sym, refl, ap, ◌∙◌, subst, append_assoc, append-nil, All, All-append, All-nil, SharedShelf, Moment, Did, HasBox, IsAsPlanned, HaveNext, Led, asks_of, told_last, took_in, taken_in, asks_more, last_more, led_more, next_more, Ctx, SharedHeap, Gains, Runs, Steps, turns_of, AskFacts, counted_by, by_box, one_more, if◌then◌else◌}
 
 pub took_more : (i : ℕ) (dids : List Did) (more : List Did) → took_in i (dids ++ more) ≡ took_in i dids ++ took_in i more
 took_more i [] more = refl
@@ -16,12 +16,12 @@ gains_more shelf heap old mid new dids more first later = record {
       ∙ ap (λ l. turns_of heap old i ++ l) (sym (took_more i dids more));
   asks = subst (λ l. HaveNext old.seat.places l new.seat.places) (sym (asks_more dids more)) (next_more old.seat.places (asks_of dids) (asks_of more) mid.seat.places new.seat.places first.asks later.asks);
   refused = later.refused ∙ ap (λ l. counted_by l (asks_of more)) first.refused ∙ counted_more old.seat.refused (asks_of dids) (asks_of more) ∙ ap (counted_by old.seat.refused) (sym (asks_more dids more));
-  planned = subst (All (HasPlan shelf)) (sym (asks_more dids more)) (All-append (HasPlan shelf) (asks_of dids) (asks_of more) first.planned later.planned);
+  planned = subst (All (IsAsPlanned shelf)) (sym (asks_more dids more)) (All-append (IsAsPlanned shelf) (asks_of dids) (asks_of more) first.planned later.planned);
 }
 
 -- nothing was done
 pub gains_none : {H : Type 0} (shelf : SharedShelf H) (heap : SharedHeap) (ctx : Ctx) → Gains shelf heap ctx ctx []
-gains_none shelf heap ctx = record { client = refl; turns = λ i low. sym (append-nil (turns_of heap ctx i)); asks = refl; refused = refl; planned = All-nil (HasPlan shelf) }
+gains_none shelf heap ctx = record { client = refl; turns = λ i low. sym (append-nil (turns_of heap ctx i)); asks = refl; refused = refl; planned = All-nil (IsAsPlanned shelf) }
 
 pub runs_more : {H : Type 0} (shelf : SharedShelf H) (heap : SharedHeap) (old mid new : Ctx) (at from to : Moment) (box box' : ℕ) → Runs shelf heap old mid at from box
     → ((last : Option (ℕ × ℕ)) → HasBox from.stage last box → Steps shelf heap mid new from last to box') → Runs shelf heap old new at to box'

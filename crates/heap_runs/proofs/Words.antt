@@ -42,7 +42,7 @@ pub use Rattle.deeds.specs.Dids.{Asked, Did, HasBox, HaveNext, IsWanted, IsWante
 pub use Rattle.deeds.specs.declared.deeds.Deed.{Deed}
 pub use Rattle.deeds.specs.declared.deeds.Doing.{Doing}
 pub use Rattle.deeds.specs.declared.deeds.Told.{Told}
-pub use Rattle.heap_runs.specs.Heaps.{Gains, counted_by, HasPlan, IsCtxOf, MayCall, Runs, Stands, Steps, log_of, shelf_id, turns_of}
+pub use Rattle.heap_runs.specs.Heaps.{Gains, counted_by, IsAsPlanned, IsCtxOf, MayCall, Runs, Stands, Steps, log_of, shelf_id, turns_of}
 pub use Rattle.heap_runs.specs.Histories.{told_in, told_to}
 pub use Rattle.heap_runs.specs.Ways.{AreLocks, AreWays, client_of, known, seal, seen_at, state_of, taken_in, told_of, took_in, turns_in}
 pub use Rattle.heap_runs.specs.declared.heaps.Ctx.{Ctx}
@@ -53,7 +53,8 @@ pub use Rattle.hook_api.specs.Counts.{capped}
 pub use Rattle.hook_api.specs.Hooks.{Answers as AnswersTo}
 pub use Rattle.hook_api.specs.Plans.{kind_of}
 pub use Rattle.hook_api.specs.ShareSteps.{one_more}
-pub use Rattle.hook_api.specs.Shared.{had}
+pub use Rattle.hook_api.specs.Orders.{IsByPlanOf}
+pub use Rattle.hook_api.specs.Shared.{plan_of_kind}
 pub use Rattle.hook_api.specs.declared.shared.SharedShelf.{SharedShelf}
 pub use Rattle.recorded_arena.proofs.Turning.{replayed_sound}
 pub use Rattle.recorded_arena.specs.Records.{Record, record_after}

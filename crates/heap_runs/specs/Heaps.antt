@@ -8,7 +8,8 @@ use Rattle.atomic_table.specs.Seated.{TableId}
 use Rattle.hook_api.specs.Asked.{AskFacts, by_box}
 use Rattle.hook_api.specs.Plans.{kind_of}
 use Rattle.hook_api.specs.ShareSteps.{one_more}
-use Rattle.hook_api.specs.Shared.{had}
+use Rattle.hook_api.specs.Orders.{IsByPlanOf}
+use Rattle.hook_api.specs.Shared.{plan_of_kind}
 use Rattle.hook_api.specs.declared.shared.SharedShelf.{SharedShelf}
 use Rattle.call_plan.specs.Calls.{CallFacts, HasRoomToHold, moment_at}
 use Rattle.call_plan.specs.Runs.{Moment, after}
@@ -58,9 +59,9 @@ pub record Stands (heap : SharedHeap) (ctx : Ctx) (call : CallFacts) : Type 0 wh
   pub comes : Comes false (known (arc_value heap.table) (log_of ctx)) ctx.client (moment_at call ctx.desk.facts)
   pub room : HasRoomToHold ctx.desk.facts ctx.desk.room call.stage.next
 
--- an ask is planned only where the shelf has had a plan of that box and kind
-abbrev pub HasPlan : {H : Type 0} → SharedShelf H → AskFacts → Type 0
-HasPlan shelf asked = IsTrue asked.planned → had shelf asked.box_no (kind_of asked.ask) ≡ true
+-- whether an ask was refused as planned is what is left of the plan that was set last on the shelf for its box and kind tells
+abbrev pub IsAsPlanned : {H : Type 0} → SharedShelf H → AskFacts → Type 0
+IsAsPlanned shelf asked = IsByPlanOf (plan_of_kind shelf asked.box_no (kind_of asked.ask)) asked.planned
 
 -- how many asks each box refused by itself, with those of some asks more
 abbrev pub counted_by : List ℕ → List AskFacts → List ℕ
@@ -68,13 +69,13 @@ counted_by refused [] = refused
 counted_by refused (a ∷ asks) = counted_by (if by_box a then one_more a.box_no refused else refused) asks
 
 -- What a context gains by some turns and asks: each pass its own of the turns and no others, in order, each with what it told; and
--- its seat moves on by just these asks, counts those that a box refused by itself, and each is planned only where there was a plan.
+-- its seat moves on by just these asks, counts those that a box refused by itself, and each is refused as planned just where the plans say so.
 pub record Gains {H : Type 0} (shelf : SharedShelf H) (heap : SharedHeap) (old new : Ctx) (dids : List Did) : Type 0 where
   pub client : new.client ≡ old.client
   pub turns : (i : ℕ) → i < 32 → turns_of heap new i ≡ turns_of heap old i ++ took_in i dids
   pub asks : HaveNext old.seat.places (asks_of dids) new.seat.places
   pub refused : new.seat.refused ≡ counted_by old.seat.refused (asks_of dids)
-  pub planned : All (HasPlan shelf) (asks_of dids)
+  pub planned : All (IsAsPlanned shelf) (asks_of dids)
 
 -- What one step of a call did, where the last turn was this one.
 pub record Steps {H : Type 0} (shelf : SharedShelf H) (heap : SharedHeap) (old new : Ctx) (at : Moment) (last : Option (ℕ × ℕ)) (at' : Moment) (box_no : ℕ) : Type 0 where

@@ -2,6 +2,7 @@ pub mod Words
 pub mod Boxes
 pub mod Chains
 pub mod Filling
+pub mod InForce
 pub mod Pairing
 pub mod PlanSteps
 pub mod SeatSums

@@ -7,7 +7,7 @@ pub use Rattle.std.proofs.Math.Dec.{eqb-suc-zero}
 pub use Rattle.std.proofs.lemmas.Bool.{eqb-false, eqb-true, eq-eqb}
 pub use Rattle.std.proofs.lemmas.Bool.Decides.{nat_tests}
 pub use Rattle.std.proofs.lemmas.Grind.{common_steps}
-pub use Rattle.std.proofs.lemmas.List.{map-append, get_or-set_other, get_or-set_same, length-append, length-replicate, get_or-map, get_or_read_under, map-set, length-map}
+pub use Rattle.std.proofs.lemmas.List.{map-append, get_or-set_other, get_or-set_same, get_or_default, length-append, length-replicate, get_or-map, get_or_read_under, map-set, length-map}
 pub use Rattle.std.proofs.lemmas.List.Elements.{All-pop, All-push, All-same}
 pub use Rattle.std.proofs.lemmas.List.Sums.{sum_by-cons, sum_by-append, sum_by_push, sum_by-take-drop, sum_by-set}
 pub use Rattle.atomic_table.proofs.Lists.{set_else, set_here, set_again, at_snoc, some_there, exchanged, at_set}
@@ -30,8 +30,8 @@ pub use Rattle.hook_api.specs.Filling.{FillsIn, filled_in}
 pub use Rattle.hook_api.specs.Hooks.{Account, Tells}
 pub use Rattle.hook_api.specs.Kept.{IsKept, KeptFacts, heard_of}
 pub use Rattle.hook_api.specs.Kepts.{IsPaired, asks_after, kept_of, paired}
-pub use Rattle.hook_api.specs.Orders.{no_order, had_at, no_orders}
-pub use Rattle.hook_api.specs.Plans.{PlanRefusesNth, next_plan, plan_after, plan_of, refuses_next, is_set, plan_at}
+pub use Rattle.hook_api.specs.Orders.{AreInForce, AreOf, IsByPlanOf, IsLeftOf, no_order, no_orders, plan_for}
+pub use Rattle.hook_api.specs.Plans.{PlanRefusesNth, next_plan, plan_after, plan_of, refuses, refuses_next, is_set, kind_index, kind_of, plan_at, plans_after}
 pub use Rattle.hook_api.specs.Seats.{refused_at, tallies_of}
 pub use Rattle.hook_api.specs.ShareSteps.{first_part, idle, both_tallies, later_part, spent, most, with_refusal, HasBox, came_home, counted, having, took, waited, Took}
 pub use Rattle.hook_api.specs.Shared.{HasCounted, IsAskOfSome, IsSeatOf, IsNewSeat}
@@ -39,6 +39,9 @@ pub use Rattle.hook_api.specs.Sharing.{Covers, Rule, blank, clients_of, refused_
 pub use Rattle.hook_api.specs.Shelf.{BoxState, no_account, no_box, AskStep, BoxStep, PlanStep, Shelf, box_at, count_of, new_book}
 pub use Rattle.hook_api.specs.declared.books.Book.{Book}
 pub use Rattle.hook_api.specs.declared.plans.Kind.{Kind}
+pub use Rattle.hook_api.specs.declared.orders.Order.{Order}
+pub use Rattle.hook_api.specs.declared.orders.Orders.{Orders}
+pub use Rattle.hook_api.specs.declared.plans.Plan.{Plan}
 pub use Rattle.hook_api.specs.declared.plans.Plan.TheVariants.{Pass, After}
 pub use Rattle.hook_api.specs.declared.seat.AskSeat.{AskSeat}
 pub use Rattle.hook_api.specs.declared.sights.Began.{Began}

@@ -1,12 +1,13 @@
 -- What a clause says of a shared shelf.
-use Rattle.std.specs.Prelude.{ℕ, ◌≡◌, ◌+◌, ◌≤◌, ◌⊎◌, replicate, Bool, List, slice_index_or, slice_set, Option}
+use Rattle.std.specs.Prelude.{ℕ, ◌≡◌, ◌+◌, ◌≤◌, ◌⊎◌, replicate, List, slice_index_or, slice_set, Option}
 use Rattle.hook_api.specs.declared.orders.Orders.{Orders}
 use Rattle.hook_api.specs.declared.plans.Kind.{Kind}
+use Rattle.hook_api.specs.declared.plans.Plan.{Plan}
 use Rattle.hook_api.specs.declared.seat.AskSeat.{AskSeat}
 use Rattle.hook_api.specs.declared.shared.SharedShelf.{SharedShelf}
 use Rattle.hook_api.specs.Asked.{AskFacts}
 use Rattle.hook_api.specs.Counts.{greatest}
-use Rattle.hook_api.specs.Orders.{had_of, no_orders, with_order}
+use Rattle.hook_api.specs.Orders.{no_orders, plan_for, with_order}
 use Rattle.hook_api.specs.Shelf.{BoxState, BoxStep}
 
 -- an ask of a box number in some state, as a shelf asks it
@@ -30,9 +31,9 @@ module _ {H : Type 0} where
   abbrev pub orders_of : SharedShelf H → List Orders
   orders_of shelf = shelf.orders
 
-  -- whether a box number ever had a plan for a kind
-  abbrev pub had : SharedShelf H → ℕ → Option Kind → Bool
-  had shelf n kind = had_of (slice_index_or shelf.orders n no_orders) kind
+  -- the plan that was set last for a box number and the kind of an ask
+  abbrev pub plan_of_kind : SharedShelf H → ℕ → Option Kind → Plan
+  plan_of_kind shelf n kind = plan_for (slice_index_or shelf.orders n no_orders) kind
 
   -- it is a seat of this shelf
   abbrev pub IsSeatOf : SharedShelf H → AskSeat → Type 0

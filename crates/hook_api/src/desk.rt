@@ -1,34 +1,36 @@
 //! A box of hooks with what a shelf keeps for it, as it lies under its lock.
 
-ghost use Rattle.std.specs.Prelude.{◌≡◌, IsTrue, true, false};
-ghost use Rattle.hook_api.specs.Orders.{had_of};
+ghost use Rattle.std.specs.Prelude.{◌≡◌};
+ghost use Rattle.hook_api.specs.Orders.{AreInForce, IsByPlanOf, IsLeftOf, order_at, plan_for};
 ghost use Rattle.hook_api.specs.Plans.{kind_of, plan_at};
-ghost use Rattle.hook_api.specs.declared.plans.Plan.TheVariants.{Pass};
 ghost use Rattle.hook_api.specs.Shelf.{BoxState, BoxStep};
 
 use crate::asked::Asked;
 use crate::books::Book;
 use crate::hooks::ExtentHooks;
-use crate::orders::{Order, Orders};
-use crate::plans::{Kind, Plan};
+use crate::orders::Orders;
+use crate::plans::Kind;
 use crate::shelf::ask_box;
 use space_model::Ask;
 use std::marker::Model;
 
-/// A box, its book, and which of the plans set outside its lock the book has taken over, by kind.
+/// A box, its book, and which of the plans set outside its lock the book has taken over.
 #[derive(Drop)]
 pub struct Desk<H: ExtentHooks> {
     hooks: H,
     book: Book,
-    taken_over: [u64; Kind::COUNT],
+    taken_over: Orders,
 }
 
 impl<H: ExtentHooks> Model for Desk<H> {
+    ghost use Rattle.hook_api.specs.Orders.{AreInForce};
     ghost use Rattle.hook_api.specs.Shelf.{BoxState};
 
     ghost Value = { BoxState };
 
     ghost view = { λ d. record { account = H.account d.hooks; book = d.book } };
+
+    ghost invariant = { λ d. AreInForce d.taken_over d.book.plans };
 }
 
 impl<H: ExtentHooks> Desk<H> {
@@ -36,10 +38,11 @@ impl<H: ExtentHooks> Desk<H> {
     pub(crate) fn new(hooks: H, book: Book) -> Desk<H>
         ensures { result ≡ record { account = H.account hooks; book = book } }
     {
+        let taken_over = Orders::of(&book);
         Desk {
             hooks,
             book,
-            taken_over: [0; Kind::COUNT],
+            taken_over,
         }
     }
 
@@ -52,13 +55,18 @@ impl<H: ExtentHooks> Desk<H> {
     }
 
     /// The box and its book, which has taken over the plans that were set outside its lock.
-    pub(crate) fn close(mut self, orders: &Orders) -> (H, Book)
-        ensures { H.account result.0 ≡ self.account }
+    pub(crate) fn close(self, orders: &Orders) -> (H, Book)
+        ensures account { H.account result.0 ≡ self.account }
+        ensures in_force { AreInForce orders.now result.1.plans }
     {
-        for kind in Kind::ALL {
-            self.take_over(kind, orders.get(kind));
+        let Desk {
+            hooks,
+            mut book,
+            taken_over,
+        } = self;
+        for i in 0..Kind::COUNT {
+            book.plans[i] = orders.kinds[i].in_force(taken_over.kinds[i], book.plans[i]);
         }
-        let Desk { hooks, book, .. } = self;
         (hooks, book)
     }
 
@@ -69,18 +77,15 @@ impl<H: ExtentHooks> Desk<H> {
         self.hooks.refusals()
     }
 
-    /// The book takes a plan over that was set since it last did. A kind that never had a plan has none.
-    pub(crate) fn take_over(&mut self, kind: Kind, order: Order)
+    /// The book takes the plan of a kind over, where one was set since it last did.
+    pub(crate) fn take_over(&mut self, kind: Kind, orders: &Orders)
         ensures account { self.new.account ≡ self.old.account }
-        ensures never { order.ever ≡ false → plan_at self.new.book.plans kind ≡ Pass }
+        ensures in_force { IsLeftOf (order_at orders.now kind).plan (plan_at self.new.book.plans kind) }
     {
         let i = kind.index();
-        if !order.ever {
-            self.book.plans[i] = Plan::Pass;
-        } else if order.number != self.taken_over[i] {
-            self.taken_over[i] = order.number;
-            self.book.plans[i] = Plan::of(order.nth);
-        }
+        let order = orders.kinds[i];
+        self.book.plans[i] = order.in_force(self.taken_over.kinds[i], self.book.plans[i]);
+        self.taken_over.kinds[i] = order;
     }
 
     /// Asks the box, except where a plan refuses the ask.
@@ -88,10 +93,10 @@ impl<H: ExtentHooks> Desk<H> {
         ensures step { (from : BoxState) × (from.account ≡ self.old.account) × BoxStep from result self.new }
         ensures of_box { result.box_no ≡ box_no }
         ensures of_ask { result.ask ≡ ask }
-        ensures planned { IsTrue result.planned → had_of orders.now (kind_of ask) ≡ true }
+        ensures by_plan { IsByPlanOf (plan_for orders.now (kind_of ask)) result.planned }
     {
         if let Some(kind) = Kind::of(ask) {
-            self.take_over(kind, orders.get(kind));
+            self.take_over(kind, orders);
         }
         ask_box(&mut self.hooks, &mut self.book, box_no, ask)
     }

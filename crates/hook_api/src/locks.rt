@@ -2,7 +2,7 @@
 
 ghost use Rattle.std.specs.Prelude.{◌≡◌, ◌+◌, ◌<◌, ◌≤◌, [], ◌∷◌, true, length, None, IsTrue, MatchBool, if◌then◌else◌};
 ghost use Rattle.hook_api.specs.Asked.{by_box};
-ghost use Rattle.hook_api.specs.Orders.{had_of};
+ghost use Rattle.hook_api.specs.Orders.{IsByPlanOf, plan_for};
 ghost use Rattle.hook_api.specs.Plans.{kind_of};
 ghost use Rattle.hook_api.specs.Shelf.{BoxState, BoxStep};
 ghost use Rattle.hook_api.specs.ShareSteps.{HasBox, Took, after_ask, idle};
@@ -129,7 +129,7 @@ impl<H: ExtentHooks> Locks<H> {
         ensures step { (from : BoxState) × (after : BoxState) × BoxStep from result after }
         ensures of_box { result.box_no ≡ box_no }
         ensures of_ask { result.ask ≡ ask }
-        ensures planned { IsTrue result.planned → had_of orders.now (kind_of ask) ≡ true }
+        ensures by_plan { IsByPlanOf (plan_for orders.now (kind_of ask)) result.planned }
     {
         let i = box_no as usize;
         self.take(rt, place, i);

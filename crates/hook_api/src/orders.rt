@@ -1,21 +1,28 @@
 //! The plans of a shared shelf, as they were set outside its locks.
 
-ghost use Rattle.std.specs.Prelude.{◌≡◌, true};
-ghost use Rattle.hook_api.specs.Orders.{had_at, no_orders, with_order};
-ghost use Rattle.hook_api.specs.Plans.{is_set, plan_at};
+ghost use Rattle.std.specs.Prelude.{◌≡◌};
+ghost use Rattle.hook_api.specs.Orders.{IsLeftOf, no_orders, with_order};
 
 use crate::books::Book;
-use crate::plans::Kind;
+use crate::plans::{Kind, Plan};
 
 /// The plan that was set last for one kind. A box takes it over at the next ask of the kind.
-#[derive(Clone, Copy)]
+#[derive(Clone, Copy, PartialEq, Eq)]
 pub struct Order {
-    /// Whether the kind ever had a plan.
-    pub ever: bool,
     /// How many plans were set while the shelf was shared. It wraps.
     pub number: u64,
-    /// Which ask is refused, counted from 1 on, or 0 for every ask.
-    pub nth: u64,
+    /// The plan, as it was when it was set, or when the shelf came to be shared.
+    pub plan: Plan,
+}
+
+impl Order {
+    /// What is in force of it where `left` is left of another one: that, if this is the same one.
+    pub(crate) fn in_force(self, other: Order, left: Plan) -> Plan
+        requires { IsLeftOf other.plan left }
+        ensures { IsLeftOf self.plan result }
+    {
+        if self == other { left } else { self.plan }
+    }
 }
 
 /// The plans that were set last for one box, by the number of their kind.
@@ -26,35 +33,29 @@ pub struct Orders {
 }
 
 impl Orders {
+    ghost use Rattle.hook_api.specs.Orders.{AreOf};
+
     /// No plan was ever set.
     pub(crate) fn none() -> Orders
         ensures { result ≡ no_orders }
     {
         Orders {
             kinds: [Order {
-                ever: false,
                 number: 0,
-                nth: 0,
+                plan: Plan::Pass,
             }; Kind::COUNT],
         }
     }
 
-    /// The kinds that have a plan in a book. None was set since.
+    /// The plans of a book. None was set since.
     pub(crate) fn of(book: &Book) -> Orders
-        ensures { (kind : Kind) → had_at result kind ≡ is_set (plan_at book.now.plans kind) }
+        ensures { AreOf result book.now.plans }
     {
         let mut orders = Orders::none();
         for i in 0..Kind::COUNT {
-            orders.kinds[i].ever = book.plans[i].is_set();
+            orders.kinds[i].plan = book.plans[i];
         }
         orders
-    }
-
-    /// What was set last for a kind.
-    pub(crate) fn get(&self, kind: Kind) -> Order
-        ensures { result.ever ≡ had_at self.now kind }
-    {
-        self.kinds[kind.index()]
     }
 
     /// Sets a plan for a kind.
@@ -63,9 +64,8 @@ impl Orders {
     {
         let number = self.kinds[kind.index()].number.wrapping_add(1);
         self.kinds[kind.index()] = Order {
-            ever: true,
             number,
-            nth,
+            plan: Plan::of(nth),
         };
     }
 }

@@ -2,8 +2,8 @@
 
 ghost use Rattle.std.specs.Prelude.{◌≡◌, ℕ, ◌+◌, ◌<◌, ◌≤◌, [], ◌∷◌, length, map, replicate, slice_index, slice_index_or, vec_capacity, vec_len, Some, IfOk, IfErr};
 ghost use Rattle.std.specs.List.{All};
-ghost use Rattle.hook_api.specs.Orders.{had_at, no_orders};
-ghost use Rattle.hook_api.specs.Plans.{is_set, plan_at};
+ghost use Rattle.hook_api.specs.Orders.{AreOf, no_orders};
+ghost use Rattle.hook_api.specs.Plans.{plan_at};
 ghost use Rattle.hook_api.specs.Shared.{IsNewSeat, IsSeatOf, client_count, own_at_share};
 ghost use Rattle.hook_api.specs.Sharing.{blank};
 ghost use Rattle.hook_api.specs.ShareSteps.{idle};
@@ -41,9 +41,9 @@ fn desks_of<H: ExtentHooks>(
     desks
 }
 
-/// The kinds that have a plan, by box number.
+/// The plans in force, by box number.
 fn orders_in(books: &[Book; BOXES]) -> [Orders; BOXES]
-    ensures { (n : ℕ) → n < 32 → (kind : Kind) → had_at (slice_index_or result n no_orders) kind ≡ is_set (plan_at (slice_index_or books.now n new_book).plans kind) }
+    ensures { (n : ℕ) → n < 32 → AreOf (slice_index_or result n no_orders) (slice_index_or books.now n new_book).plans }
 {
     let mut orders = [Orders::none(); BOXES];
     for i in 0..BOXES {
@@ -117,7 +117,7 @@ impl<H: ExtentHooks> Locks<H> {
 
 impl<H: ExtentHooks> HookShelf<H> {
     ghost use Rattle.hook_api.specs.Shelf.{box_at};
-    ghost use Rattle.hook_api.specs.Shared.{had};
+    ghost use Rattle.hook_api.specs.Shared.{plan_of_kind};
 
     /// Puts the boxes under locks of their own, with the plans that are in force, and makes a seat for each client. Where
     /// there is no memory the shelf comes back.
@@ -129,7 +129,7 @@ impl<H: ExtentHooks> HookShelf<H> {
         requires clients { (0 < clients) × (clients ≤ 32) }
         ensures clients { IfOk result (λ r. client_count r.0 ≡ clients) }
         ensures own { IfOk result (λ r. (n : ℕ) → n < 32 → slice_index (own_at_share r.0) n ≡ (box_at self n).account.refusals) }
-        ensures plans { IfOk result (λ r. (n : ℕ) → n < 32 → (kind : Kind) → had r.0 n (Some kind) ≡ is_set (plan_at (box_at self n).book.plans kind)) }
+        ensures plans { IfOk result (λ r. (n : ℕ) → n < 32 → (kind : Kind) → plan_of_kind r.0 n (Some kind) ≡ plan_at (box_at self n).book.plans kind) }
         ensures count { IfOk result (λ r. length r.1.items ≡ clients) }
         ensures seats { IfOk result (λ r. All (λ seat. IsSeatOf r.0 seat × IsNewSeat seat) r.1.items) }
         ensures back { IfErr result (λ r. r.0 ≡ self) }

@@ -1,8 +1,9 @@
 //! A shelf that threads share.
 
-ghost use Rattle.std.specs.Prelude.{◌≡◌, ◌+◌, ◌<◌, ◌≤◌, true, length, slice_set, vec_capacity, IsTrue, if◌then◌else◌};
+ghost use Rattle.std.specs.Prelude.{◌≡◌, ◌+◌, ◌<◌, ◌≤◌, length, slice_set, vec_capacity, if◌then◌else◌};
 ghost use Rattle.hook_api.specs.Asked.{by_box};
 ghost use Rattle.hook_api.specs.Counts.{capped};
+ghost use Rattle.hook_api.specs.Orders.{IsByPlanOf};
 ghost use Rattle.hook_api.specs.Plans.{kind_of};
 ghost use Rattle.hook_api.specs.ShareSteps.{one_more};
 ghost use Rattle.hook_api.specs.Seats.{place_at};
@@ -38,7 +39,7 @@ pub struct SharedShelf<H: ExtentHooks> {
 }
 
 impl<H: ExtentHooks> SharedShelf<H> {
-    ghost use Rattle.hook_api.specs.Shared.{IsAskOfSome, IsSeatOf, had, orders_of, same_locks, with_plan_set};
+    ghost use Rattle.hook_api.specs.Shared.{IsAskOfSome, IsSeatOf, orders_of, plan_of_kind, same_locks, with_plan_set};
 
     /// Waits for the box, passes the ask to it and gives its answer, except where a plan refuses the ask. Takes no
     /// memory.
@@ -54,7 +55,7 @@ impl<H: ExtentHooks> SharedShelf<H> {
         ensures place { result.place ≡ place_at seat.old box_no }
         ensures places { seat.new.places ≡ slice_set seat.old.places box_no (capped (place_at seat.old box_no + 1)) }
         ensures refused { seat.new.refused ≡ (if by_box result then one_more box_no seat.old.refused else seat.old.refused) }
-        ensures planned { IsTrue result.planned → had self.now box_no (kind_of ask) ≡ true }
+        ensures by_plan { IsByPlanOf (plan_of_kind self.now box_no (kind_of ask)) result.planned }
     {
         let i = box_no as usize;
         let mut place: Place<H> = mem::replace(&mut seat.badge, Badge::blank()).into_seat();

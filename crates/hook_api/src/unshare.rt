@@ -1,10 +1,12 @@
 //! How shared boxes are taken out again.
 
-ghost use Rattle.std.specs.Prelude.{◌≡◌, ℕ, ◌<◌, ◌≤◌, [], length, map, slice_index, slice_index_or, vec_capacity, vec_len, IfSome, IfNone};
+ghost use Rattle.std.specs.Prelude.{◌≡◌, ℕ, ◌<◌, ◌≤◌, [], length, map, slice_index, slice_index_or, vec_capacity, vec_len, Some, IfSome, IfNone};
 ghost use Rattle.std.specs.List.{All, sum_by};
 ghost use Rattle.std.specs.Mem.Slots.{slots_items, slots_len, IsFull};
+ghost use Rattle.hook_api.specs.Orders.{AreInForce, IsLeftOf, no_orders};
+ghost use Rattle.hook_api.specs.Plans.{plan_at};
 ghost use Rattle.hook_api.specs.Seats.{refused_at, tallies_of};
-ghost use Rattle.hook_api.specs.Shared.{HasCounted, IsSeatOf, client_count, own_at_share};
+ghost use Rattle.hook_api.specs.Shared.{HasCounted, IsSeatOf, client_count, own_at_share, plan_of_kind};
 ghost use Rattle.hook_api.specs.Sharing.{Covers};
 ghost use Rattle.hook_api.specs.ShareSteps.{idle};
 ghost use Rattle.hook_api.specs.Shelf.{box_at, no_box};
@@ -14,6 +16,7 @@ use crate::desk::Desk;
 use crate::hooks::ExtentHooks;
 use crate::locks::Locks;
 use crate::orders::Orders;
+use crate::plans::Kind;
 use crate::seat::{AskSeat, AskSeats};
 use crate::share_rule::{Gathers, Place};
 use crate::shared::{Room, SharedShelf};
@@ -29,7 +32,8 @@ fn empty<H: ExtentHooks>(
 ) -> HookShelf<H>
     requires slots { (slots_len closed.slots ≡ 32) × IsFull closed.slots }
     requires room { (boxes.items ≡ []) × (32 ≤ vec_capacity boxes) }
-    ensures { result.accounts ≡ map (λ d. d.account) (slots_items closed.slots) }
+    ensures accounts { result.accounts ≡ map (λ d. d.account) (slots_items closed.slots) }
+    ensures in_force { (n : ℕ) → n < 32 → AreInForce (slice_index_or orders.now n no_orders) (box_at result n).book.plans }
 {
     let mut books = [Book::new(); BOXES];
     for i in 0..BOXES {
@@ -73,11 +77,13 @@ impl<H: ExtentHooks> Locks<H> {
 }
 
 impl<H: ExtentHooks> SharedShelf<H> {
-    /// Takes the boxes out, with the plans that are in force. Where the seats of all clients are given, the refusals that they counted for each box add up
-    /// to at most what the box's own count gained, or that count stands at the greatest `u64`. Takes no memory.
+    /// Takes the boxes out, with the plans that are in force: what the asks so far left of each plan that was set last.
+    /// Where the seats of all clients are given, the refusals that they counted for each box add up to at most what the
+    /// box's own count gained, or that count stands at the greatest `u64`. Takes no memory.
     pub fn unshare(self, given: AskSeats) -> HookShelf<H>
         requires seats { All (IsSeatOf self) given.items }
         ensures counted { length given.items ≡ client_count self → (n : ℕ) → n < 32 → HasCounted (slice_index (own_at_share self) n) (box_at result n).account.refusals (sum_by (λ seat. refused_at seat n) given.items) }
+        ensures plans { (n : ℕ) → n < 32 → (kind : Kind) → IsLeftOf (plan_of_kind self n (Some kind)) (plan_at (box_at result n).book.plans kind) }
     {
         let SharedShelf {
             locks,

@@ -4,9 +4,9 @@ use Rattle.std.specs.Prelude.{slice_index}
 use Rattle.std.specs.List.{AllByRecursion, sum_by}
 use Rattle.journal.specs.Texts.{AreReadAgain}
 use Rattle.heap_runs.specs.declared.closes.Closed.{Closed}
-use Rattle.hook_api.specs.Plans.{is_set, plan_at}
+use Rattle.hook_api.specs.Plans.{plan_at}
 use Rattle.hook_api.specs.Seats.{refused_at}
-use Rattle.hook_api.specs.Shared.{HasCounted, had, orders_of, own_at_share, same_locks}
+use Rattle.hook_api.specs.Shared.{HasCounted, orders_of, own_at_share, plan_of_kind, same_locks}
 use Rattle.hook_api.specs.Shelf.{Shelf, box_at}
 use Rattle.hook_api.specs.declared.locks.Locks.{Locks}
 use Rattle.hook_api.specs.declared.plans.Kind.{Kind}
@@ -19,7 +19,7 @@ use Rattle.phase_run.specs.declared.summaries.Numbers.{Numbers}
 
 module _ {H : Type 0} (with_journals : Bool) (phases : Phases) (given left_over : Shelf) (left : Left) (sink sink' : Held) (shelf shelf' : SharedShelf H) (closed : Closed) (numbers : Numbers)
     (own : (n : ℕ) → n < 32 → slice_index (own_at_share shelf) n ≡ (box_at given n).account.refusals)
-    (plans : (n : ℕ) → n < 32 → (kind : Kind) → had shelf n (Some kind) ≡ is_set (plan_at (box_at given n).book.plans kind))
+    (plans : (n : ℕ) → n < 32 → (kind : Kind) → plan_of_kind shelf n (Some kind) ≡ plan_at (box_at given n).book.plans kind)
     (carried : CarriedOut shelf phases closed numbers) (locks : same_locks shelf shelf')
     (counted : (n : ℕ) → n < 32 → HasCounted (slice_index (own_at_share shelf') n) (box_at left_over n).account.refusals (sum_by (λ (seat : AskSeat). refused_at seat n) closed.seats.items)) where
   -- each box counted the refusals of the asks, from the shelf handed in to the one that is left

@@ -32,7 +32,7 @@ AreFrom c (ctx ∷ ctxs) = (ctx.client ≡ c) × AreFrom (c + 1) ctxs
 abbrev pub desk_of : Ctx → DeskFacts
 desk_of ctx = ctx.desk.facts
 
--- how the clients stand, where the boxes have had these plans
+-- how the clients stand, where these plans were set last for the boxes
 abbrev pub stand_of : List Orders → Crew → Stand
 stand_of orders crew = record { desks = map desk_of crew.ctxs.items; names = crew.names; live = crew.live; orders = orders; tally = crew.tally }
 

@@ -1,5 +1,5 @@
 -- How the clients of a trace stand between its parts, and what a part comes to.
-use Rattle.std.specs.Prelude.{◌≡◌, ◌≢◌, ℕ, ◌+◌, ◌<◌, ◌==◌, ◌++◌, Bool, true, false, IsTrue, List, [], ◌∷◌, Option, None, Some, length, map, replicate, filter, nat_lt, slice_index_or, slice_set, if◌then◌else◌}
+use Rattle.std.specs.Prelude.{◌≡◌, ◌≢◌, ℕ, ◌+◌, ◌<◌, ◌==◌, ◌++◌, Bool, true, false, List, [], ◌∷◌, Option, None, Some, length, map, replicate, filter, nat_lt, slice_index_or, slice_set, if◌then◌else◌}
 use Rattle.std.specs.List.{All, flat_map, range_with_len}
 use Rattle.call_plan.specs.declared.needs.Answered.{Answered}
 use Rattle.call_plan.specs.declared.needs.Answered.TheVariants.{Ok}
@@ -9,7 +9,7 @@ use Rattle.heap_runs.specs.Deals.{no_desk}
 use Rattle.heap_runs.specs.Walks.{Done, dids_of}
 use Rattle.heap_runs.specs.declared.heaps.Ctx.{Ctx}
 use Rattle.hook_api.specs.Asked.{AskFacts}
-use Rattle.hook_api.specs.Orders.{had_of, no_orders}
+use Rattle.hook_api.specs.Orders.{IsByPlanOf, no_orders, plan_for}
 use Rattle.hook_api.specs.Plans.{kind_of}
 use Rattle.hook_api.specs.Shared.{with_plan_set}
 use Rattle.hook_api.specs.declared.orders.Orders.{Orders}
@@ -30,7 +30,7 @@ use Rattle.phase_run.specs.declared.names.Place.{Place}
 use Rattle.phase_run.specs.declared.tally.Tally.{Tally}
 
 -- What is known between two parts of a trace: what each of the 32 clients has, the names with their places, which arenas are live,
--- which plans the boxes have had, and how many calls were made in phases.
+-- the plans that were set last for the boxes, and how many calls were made in phases.
 pub record Stand : Type 0 where
   pub desks : List DeskFacts
   pub names : List (List ℕ × Place)
@@ -38,7 +38,7 @@ pub record Stand : Type 0 where
   pub orders : List Orders
   pub tally : Tally
 
--- before the first part, where the boxes have had these plans
+-- before the first part, where these plans were set last for the boxes
 abbrev pub opening_stand : List Orders → Stand
 opening_stand orders = record { desks = replicate 32 no_desk; names = []; live = true ∷ replicate 31 false; orders = orders; tally = no_answers }
 
@@ -85,9 +85,9 @@ all_tallied tally (done ∷ dones) = all_tallied (tally_with tally (map answer_t
 
 -- ---- a part
 
--- an ask is planned only where its box has had a plan for its kind
+-- whether an ask was refused as planned is what is left of the plan that was set last for its box and kind tells
 abbrev pub IsByPlan : List Orders → AskFacts → Type 0
-IsByPlan orders asked = IsTrue asked.planned → had_of (slice_index_or orders asked.box_no no_orders) (kind_of asked.ask) ≡ true
+IsByPlan orders asked = IsByPlanOf (plan_for (slice_index_or orders asked.box_no no_orders) (kind_of asked.ask)) asked.planned
 
 -- the asks of calls are so
 abbrev pub AreByPlan : List Orders → List Done → Type 0

@@ -20,8 +20,8 @@ use Rattle.hook_api.specs.declared.shared.SharedShelf.{SharedShelf}
 use Rattle.heap_runs.specs.Ways.{told_of, took_in}
 use Rattle.heap_shared.specs.Claims.{founds, is_met}
 use Rattle.heap_shared.specs.Shared.{snap}
-use Rattle.hook_api.specs.Orders.{had_of, no_orders}
-use Rattle.hook_api.specs.Plans.{is_set, plan_at}
+use Rattle.hook_api.specs.Orders.{no_orders, plan_for}
+use Rattle.hook_api.specs.Plans.{plan_at}
 use Rattle.hook_api.specs.Shelf.{Shelf, box_at}
 use Rattle.hook_api.specs.declared.kept.Journal.{Journal}
 use Rattle.hook_api.specs.declared.orders.Orders.{Orders}
@@ -98,9 +98,9 @@ pub record IsJournalOf (table : ChunkTable) (dones : List (List Done)) (book : C
   pub found : map (λ (t : Taken). t.chunk) share.taken ≡ founds journal.kept
   pub elsewhere : All (λ (t : Taken). t.owner ≢ i + 1) share.taken
 
--- the plans that boxes have had are those of a shelf
+-- the plans of boxes are those of a shelf
 abbrev pub AreThose : List Orders → Shelf → Type 0
-AreThose orders shelf = (n : ℕ) → n < 32 → (kind : Kind) → had_of (slice_index_or orders n no_orders) (Some kind) ≡ is_set (plan_at (box_at shelf n).book.plans kind)
+AreThose orders shelf = (n : ℕ) → n < 32 → (kind : Kind) → plan_for (slice_index_or orders n no_orders) (Some kind) ≡ plan_at (box_at shelf n).book.plans kind
 
 -- the ask that an entry carries, if it carries one
 abbrev pub ask_in : Option AskFacts → List AskFacts
@@ -120,7 +120,7 @@ refused_of dones n c = slice_index (counted_by (replicate 32 0) (asks_of (dids_o
 abbrev pub refused_in : List (List Done) → ℕ → ℕ
 refused_in dones n = sum_by (refused_of dones n) (range_with_len 0 32)
 
--- The parts of a trace were carried out by its clients over boxes that have had these plans, and the journals are just what they did. The asks
+-- The parts of a trace were carried out by its clients over boxes with these plans, and the journals are just what they did. The asks
 -- of a client have the places of its own from 0 on, each once, of each box, and each of them is carried by the entry behind it. No chunk is owned by two arenas, and no page is in the spaces
 -- that two journals leave.
 pub record AreCarried (orders : List Orders) (parts : List Part) (last : Stand) (journals : List Journal) (book : ChunkBook) : Type 0 where

@@ -1,4 +1,4 @@
-use Rattle.hook_api.proofs.Words.{◌≡◌, ℕ, ◌<◌, ◌≤◌, false, IsTrue, map, slice_index_or, take, vec_capacity, vec_len, slots_items, slots_len, slots_filled, BoxState}
+use Rattle.hook_api.proofs.Words.{◌≡◌, ℕ, ◌<◌, ◌≤◌, false, IsTrue, length, map, slice_index_or, take, vec_capacity, vec_len, slots_items, slots_len, slots_filled, AreInForce, BoxState, new_book, no_orders}
 use Rattle.hook_api.proofs.unshare.empty.Given as goal
 
 abbrev pub invariant-loop-i : goal.invariant-loop-i
@@ -8,4 +8,6 @@ invariant-loop-i g l = record {
   emptied : (k : ℕ) → k < l.i → slice_index_or (slots_filled l.closed.slots) k false ≡ false;
   boxes : map g.H.ExtentHooks.account l.boxes.items ≡ take l.i (map (λ (d : BoxState). d.account) (slots_items l.initial.closed.slots));
   room : (vec_len l.boxes ≡ l.i) × (32 ≤ vec_capacity l.boxes);
+  books : length l.books ≡ 32;
+  in_force : (k : ℕ) → k < l.i → AreInForce (slice_index_or l.orders k no_orders) (slice_index_or l.books k new_book).plans;
 }

@@ -42,6 +42,6 @@ returns-clause-steps g c =
         turns = λ i few. (left g at).turns i;
         asks = next_place c.args.ctx.now.seat.places c.ask-asked.new.seat.places asked box_no told.of_box told.place told.places;
         refused = next_count c.args.ctx.now.seat.refused c.ask-asked.new.seat.refused asked box_no told.of_box told.refused;
-        planned = one_plan c.args.shelf.now asked box_no c.args.ask told.of_box told.of_ask told.planned;
+        planned = one_plan c.args.shelf.now asked box_no c.args.ask told.of_box told.of_ask told.by_plan;
       };
     }

@@ -1,4 +1,4 @@
-use Rattle.heap_runs.proofs.Words.{◌<◌, ◌∷◌, [], arith, inr, refl, shelf_id, slice_set, All-nil, HasPlan, Took, deed_of}
+use Rattle.heap_runs.proofs.Words.{◌<◌, ◌∷◌, [], arith, inr, refl, shelf_id, slice_set, All-nil, IsAsPlanned, Took, deed_of}
 use Rattle.heap_runs.specs.Settings.{reading}
 use Rattle.heap_runs.proofs.Reading.{Rested, may_read, of_lock, read_rested, tells_counts, unread_rested}
 use Rattle.std.specs.Prelude.{None}
@@ -36,7 +36,7 @@ returns-in-Counted-clause-may g c =
 pub returns-in-Counted-clause-counted : goal.returns-in-Counted-clause-counted
 returns-in-Counted-clause-counted g c =
     let left = read g (goal.at.returns-in-Counted-clause-counted g c).In-Ok in
-    (c.in-Ok.told, record { client = refl; turns = λ i few. left.turns i; asks = refl; refused = refl; planned = All-nil (HasPlan c.args.shelf.now) }, (let is = c.in-Counted.is in let counts = c.in-Counted.counts-is in let got = c.get.ensures in cc))
+    (c.in-Ok.told, record { client = refl; turns = λ i few. left.turns i; asks = refl; refused = refl; planned = All-nil (IsAsPlanned c.args.shelf.now) }, (let is = c.in-Counted.is in let counts = c.in-Counted.counts-is in let got = c.get.ensures in cc))
 
 pub returns-in-Ok : goal.returns-in-Ok
 returns-in-Ok g c =
@@ -47,7 +47,7 @@ returns-in-Ok g c =
     c.in-Ok.told c.in-Ok.ensures.turned (λ counts is. c.in_default.not-Counted counts is) in record {
       may = record { is = record { ways = left.ways; seat = c.requires.may.is.seat; arenas = left.arenas }; rests = left.rests };
       same = (refl, refl);
-      counted = (refl, inr (c.in-Ok.told, record { client = refl; turns = λ i few. left.turns i; asks = refl; refused = refl; planned = All-nil (HasPlan c.args.shelf.now) }, none));
+      counted = (refl, inr (c.in-Ok.told, record { client = refl; turns = λ i few. left.turns i; asks = refl; refused = refl; planned = All-nil (IsAsPlanned c.args.shelf.now) }, none));
     }
 
 pub returns-clause-may : goal.returns-clause-may
@@ -58,4 +58,4 @@ returns-clause-may g c =
 pub returns-clause-counted : goal.returns-clause-counted
 returns-clause-counted g c =
     let left = unread g (goal.at.returns-clause-counted g c).In-Err in
-    record { client = refl; turns = λ i few. left.turns i; asks = refl; refused = refl; planned = All-nil (HasPlan c.args.shelf.now) }
+    record { client = refl; turns = λ i few. left.turns i; asks = refl; refused = refl; planned = All-nil (IsAsPlanned c.args.shelf.now) }

@@ -1,4 +1,4 @@
-use Rattle.heap_runs.proofs.Words.{◌∙◌, refl, sym, subst, arc_value, shelf_id, All-nil, Comes, HasBox, HasPlan, Lacked, Moment, known, seen_at}
+use Rattle.heap_runs.proofs.Words.{◌∙◌, refl, sym, subst, arc_value, shelf_id, All-nil, Comes, HasBox, IsAsPlanned, Lacked, Moment, known, seen_at}
 use Rattle.heap_runs.proofs.Asking.{lacked_leaves}
 use Rattle.heap_runs.proofs.heaps.SharedHeap.starve.Goals as goal
 
@@ -24,5 +24,5 @@ returns-clause-steps g c =
       follows = record { wanted = left.wanted; box = tt };
       goes = c.next.ensures.moment;
       box = subst (λ (m : Moment). HasBox m.stage last c.args.box_no) (sym c.next.ensures.moment) (left.box last c.args.box_no tt);
-      gains = record { client = refl; turns = λ i few. left.turns i; asks = refl; refused = refl; planned = All-nil (HasPlan c.args.shelf.now) };
+      gains = record { client = refl; turns = λ i few. left.turns i; asks = refl; refused = refl; planned = All-nil (IsAsPlanned c.args.shelf.now) };
     }

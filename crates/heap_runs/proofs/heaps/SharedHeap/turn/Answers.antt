@@ -1,4 +1,4 @@
-use Rattle.heap_runs.proofs.Words.{◌∙◌, arith, slice_set, refl, shelf_id, sym, subst, arc_value, All-nil, Comes, HasBox, HasPlan, Lacked, Moment, Some, Took, known, seen_at}
+use Rattle.heap_runs.proofs.Words.{◌∙◌, arith, slice_set, refl, shelf_id, sym, subst, arc_value, All-nil, Comes, HasBox, IsAsPlanned, Lacked, Moment, Some, Took, known, seen_at}
 use Rattle.heap_runs.proofs.Leaving.{Leaves}
 use Rattle.heap_runs.proofs.Making.{err_leaves, lock_within, may, of_lock, ok_box, ok_leaves, pass_within}
 use Rattle.heap_runs.proofs.heaps.SharedHeap.turn.Goals as goal
@@ -63,7 +63,7 @@ returns-in-Ok-clause-steps g c =
       follows = record { wanted = left.wanted; box = tt };
       goes = c.next.ensures.moment;
       box = subst (λ (m : Moment). HasBox m.stage (Some (c.args.turn.arena, told.box_no)) told.box_no) (sym c.next.ensures.moment) (left.box last told.box_no refl);
-      gains = record { client = refl; turns = λ i few. left.turns i; asks = refl; refused = refl; planned = All-nil (HasPlan c.args.shelf.now) };
+      gains = record { client = refl; turns = λ i few. left.turns i; asks = refl; refused = refl; planned = All-nil (IsAsPlanned c.args.shelf.now) };
     }
 
 pub next-requires-in-Err-clause-goes : goal.next-requires-in-Err-clause-goes
@@ -88,5 +88,5 @@ returns-in-Err-clause-steps g c =
       follows = record { wanted = left.wanted; box = tt };
       goes = c.next-in-Err.ensures.moment;
       box = subst (λ (m : Moment). HasBox m.stage last c.args.box_no) (sym c.next-in-Err.ensures.moment) (left.box last c.args.box_no tt);
-      gains = record { client = refl; turns = λ i few. left.turns i; asks = refl; refused = refl; planned = All-nil (HasPlan c.args.shelf.now) };
+      gains = record { client = refl; turns = λ i few. left.turns i; asks = refl; refused = refl; planned = All-nil (IsAsPlanned c.args.shelf.now) };
     }
