@@ -27,3 +27,8 @@ pub mod Ways
 pub mod Served
 pub mod Leaving
 pub mod Trims
+pub mod Unheld
+pub mod Holding
+pub mod Idle
+pub mod Alone
+pub mod Reallocs

@@ -16,3 +16,4 @@ pub mod Steps
 pub mod Answers
 pub mod Served
 pub mod Leaving
+pub mod Reallocs

@@ -2,6 +2,7 @@
 
 ghost use Rattle.replay_run.specs.Answers.{AnswersHaveCauses, MemalignsAreAligned};
 ghost use Rattle.replay_run.specs.Leaving.{EventsLeave, NoTrimsOpen};
+ghost use Rattle.replay_run.specs.Reallocs.{ReallocsLeave};
 ghost use Rattle.replay_run.specs.Served.{ValidAreServed};
 
 /// Every answer in a play has its cause in what that very call was fed: what its client had before it, the replies to the turns
@@ -35,4 +36,12 @@ pub fn events_leave()
 /// In no world of a play a client without an open call is shrinking a region in place.
 pub fn no_trims_open()
     ensures { NoTrimsOpen }
+{}
+
+/// A realloc in a play leaves its client what its answer says, whatever other clients do meanwhile: a region of the class for the size
+/// in the place of the old one, which is held no more; the old one or both, where memory was wanting; and else the old one. What the
+/// client held at each other address where the call began it holds there still, unless another client freed that meanwhile, and it holds
+/// nothing more.
+pub fn reallocs_leave()
+    ensures { ReallocsLeave }
 {}
