@@ -58,7 +58,7 @@ IsHeldBy desk addr = (region : Held) × (held_at addr desk ≡ Some region)
 -- A request is valid, by what its client had where it began (an explicit cache that it uses, or fewer than eight for one more), by what it was replied, and by what the turn meets that answers it: a
 -- size of at most 2 ^ 35 bytes and an alignment that may be asked for; a region that its client holds, or that is published in the
 -- arena where it is taken over; arenas that are live, one to empty or to end in nobody's use, and not arena 0; and for a create an
--- index that has no arena at its turn.
+-- index that has no arena at its turn. A bind to a live arena is answered by the turn that leaves the old one, so that is to be live there too.
 abbrev pub IsValid : World → WorldEvent → Tale → Request → Type 0
 IsValid w event tale (Malloc size) = size ≤ 2 ^ 35
 IsValid w event tale (Memalign align size) = IsAlignment align × (size ≤ 2 ^ 35)
