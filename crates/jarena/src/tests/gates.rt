@@ -14,7 +14,8 @@ use std::sync::{Arc, Wait};
 use std::test::Fail;
 use std::thread;
 
-const TRACE: &str = "t0 create 1\nt1 arena 1\nphase\nt0 malloc a 2097152\nt1 malloc b 2097152\njoin\n";
+const TRACE: &str =
+    "t0 create 1\nt1 arena 1\nphase\nt0 malloc a 2097152\nt1 malloc b 2097152\njoin\n";
 
 const SUMMARY: &str =
     "arena 0 entries 4 allocated 2097152 active 2097152 dirty 0 muzzy 0 retained 0 flight 0 mapped 2097152\n\
