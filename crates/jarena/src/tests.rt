@@ -1,5 +1,7 @@
 //! The program over sources and sinks in memory.
 
+mod gates;
+
 use crate::runs::run;
 use addr_space::LyingHooks;
 use edge_io::{MemSink, MemSource, WriteEdge};
