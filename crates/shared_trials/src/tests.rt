@@ -6,6 +6,7 @@ mod calls;
 mod counted;
 mod crowds;
 mod draws;
+mod flags;
 mod gates;
 mod handing;
 mod heaps;

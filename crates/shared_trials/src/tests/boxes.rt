@@ -1,18 +1,21 @@
-//! Boxes of hooks that refuse now and then, and the shelves of the tests.
+//! Boxes of hooks that refuse now and then, of which one may wait at a gate, and the shelf of the tests.
 
 ghost use Rattle.std.specs.Prelude.{◌≡◌, ◌≤◌, None, true};
 ghost use Rattle.hook_api.specs.Counts.{Rose};
 
 use super::draws::Draws;
-use hook_api::{ExtentHooks, HookShelf, Placed, RisingHooks, Said};
+use super::flags::Gate;
+use hook_api::{ExtentHooks, HookShelf, Placed, Said};
 use space_model::{CHUNK_PAGES, CHUNKS, Span};
 use std::alloc::{AllocError as NoMemory, Global};
+use std::sync::Arc;
 
 /// How many pages each of the 32 boxes of a shelf hands out at most.
 const BOX_PAGES: u64 = CHUNKS / 32 * CHUNK_PAGES;
 
 /// Hooks that place each range behind the one before and take every range back, but refuse one in so many asks, or none where that is
-/// 0. Those that refuse leave every second range uncommitted.
+/// 0. Those that refuse leave every second range uncommitted. Where there is a gate, the first range waits until somebody has seen that
+/// it is asked for, and is refused where nobody does.
 #[derive(Drop)]
 pub(crate) struct FickleHooks {
     next: u64,
@@ -20,11 +23,12 @@ pub(crate) struct FickleHooks {
     refusals: u64,
     one_in: u64,
     draws: Draws,
+    gate: Option<Arc<Gate>>,
 }
 
 impl FickleHooks {
     /// Hooks of the box with a number.
-    pub(crate) fn new(box_no: u32, one_in: u64) -> FickleHooks {
+    fn new(box_no: u32, one_in: u64, gate: Option<Arc<Gate>>) -> FickleHooks {
         let first = u64::from(box_no).saturating_mul(BOX_PAGES);
         FickleHooks {
             next: first.saturating_add(CHUNK_PAGES),
@@ -32,11 +36,12 @@ impl FickleHooks {
             refusals: 0,
             one_in,
             draws: Draws::new(u64::from(box_no)),
+            gate,
         }
     }
 
     /// Counts a refusal.
-    pub(crate) fn refuse(&mut self)
+    fn refuse(&mut self)
         ensures rose { Rose self.old.refusals self.new.refusals }
         ensures never_falls { self.old.refusals ≤ self.new.refusals }
     {
@@ -55,6 +60,16 @@ impl FickleHooks {
         refused
     }
 
+    /// Waits at the gate, if there is one. The answer is whether nobody saw that in time.
+    fn is_kept_out(&mut self) -> bool
+        ensures { self.new.refusals ≡ self.old.refusals }
+    {
+        match self.gate.take() {
+            Some(gate) => !gate.pass(),
+            None => false,
+        }
+    }
+
     /// Takes a range out of those that weren't handed out, if one is left.
     fn place(&mut self, pages: u64, align: u64) -> Option<u64>
         ensures { self.new.refusals ≡ self.old.refusals }
@@ -66,6 +81,17 @@ impl FickleHooks {
         }
         self.next = end;
         Some(first)
+    }
+
+    /// The range that is handed out next, unless nobody opens the gate or none is left.
+    fn hand_out(&mut self, pages: u64, align: u64) -> Option<u64>
+        ensures { self.new.refusals ≡ self.old.refusals }
+    {
+        if self.is_kept_out() {
+            None
+        } else {
+            self.place(pages, align)
+        }
     }
 
     /// Whether the next range is committed.
@@ -83,7 +109,7 @@ impl ExtentHooks for FickleHooks {
         if self.refuses() {
             return None;
         }
-        let Some(first) = self.place(pages, align) else {
+        let Some(first) = self.hand_out(pages, align) else {
             self.refuse();
             return None;
         };
@@ -158,21 +184,17 @@ impl ExtentHooks for FickleHooks {
     }
 }
 
-/// 32 boxes that place each range behind all earlier ones.
-pub(crate) fn rising(alloc: Global) -> Result<HookShelf<RisingHooks>, NoMemory> {
-    let mut boxes = Vec::new(alloc);
-    while boxes.len() < 32 {
-        boxes.push(RisingHooks::new())?;
-    }
-    Ok(HookShelf::new(boxes))
-}
-
-/// 32 boxes that refuse one in so many asks, or none where that is 0.
-pub(crate) fn fickle(alloc: Global, one_in: u64) -> Result<HookShelf<FickleHooks>, NoMemory> {
+/// 32 boxes that refuse one in so many asks, or none where that is 0. Box 0 has a gate where one is given.
+pub(crate) fn fickle(
+    alloc: Global,
+    one_in: u64,
+    gate: Option<Arc<Gate>>,
+) -> Result<HookShelf<FickleHooks>, NoMemory> {
+    let mut gate = gate;
     let mut boxes = Vec::new(alloc);
     while boxes.len() < 32 {
         let box_no = boxes.len() as u32;
-        boxes.push(FickleHooks::new(box_no, one_in))?;
+        boxes.push(FickleHooks::new(box_no, one_in, gate.take()))?;
     }
     Ok(HookShelf::new(boxes))
 }

@@ -1,143 +1,171 @@
 //! Calls of one client.
 
-use super::boxes::{fickle, rising};
-use super::heaps::{Trial, is_done, last, region_of, share};
+ghost use Rattle.heap_runs.specs.Heaps.{MayCall, shelf_id};
+
+use super::boxes::{FickleHooks, fickle};
+use super::heaps::{Shelf, Single, counts_of, is_done, region_of, single};
 use call_plan::{Answered, Given, Request};
-use hook_api::Kind;
+use heap_runs::{Ctx, SharedHeap};
+use hook_api::{HookShelf, Kind};
+use std::alloc::{AllocError as NoMemory, Global};
 use std::process::Abort;
+use std::sync::Wait;
 use std::test::Fail;
 
-/// The box that refused an ask, the place of the ask among those of the client to that box, and whether a plan refused it.
-fn refusal_of(rt: &impl Abort, answer: Answered) -> (u32, u64, bool) {
+/// Who refused a region: the box, the place of its ask among those of the client to that box, and whether a plan did.
+type Refusal = Option<(u32, u64, bool)>;
+
+/// Who refused the region that a call asked for, if it was refused.
+fn refusal_of(rt: &impl Abort, answer: Answered) -> Refusal {
     match answer {
-        Answered::Refused(asked) => (asked.box_no(), asked.place(), asked.planned()),
-        _ => panic!(rt; "nothing was refused"),
+        Answered::Refused(asked) => Some((asked.box_no(), asked.place(), asked.planned())),
+        Answered::Ok(Given::Region { .. }) => None,
+        _ => panic!(rt; "no region was given, and none refused"),
     }
+}
+
+/// Who refused two regions that a client asked these boxes for.
+fn two_mallocs<R: Wait + Abort>(
+    rt: &R,
+    alloc: Global,
+    boxes: HookShelf<FickleHooks>,
+) -> Result<(Refusal, Refusal), NoMemory> {
+    let Single {
+        shelf,
+        heap,
+        mut ctx,
+    } = single(alloc, boxes)?;
+    let first = refusal_of(rt, heap.malloc(rt, alloc, &shelf, &mut ctx, 1000));
+    let second = refusal_of(rt, heap.malloc(rt, alloc, &shelf, &mut ctx, 1000));
+    Ok((first, second))
 }
 
 #[test]
 fn a_refusal_is_told_to_its_own_call(rt: HostRuntime) -> Result<(), Fail> {
     let alloc = rt.alloc();
-    let mut boxes = rising(alloc)?;
+    let mut boxes = fickle(alloc, 0, None)?;
     boxes.plan(0, Kind::Alloc, 1);
-    let Trial {
-        shelf,
-        heap,
-        mut ctxs,
-    } = share(alloc, boxes, 1)?;
-    let Some(mut ctx) = last(&shelf, &heap, &mut ctxs) else {
-        panic!(rt; "there is a client")
-    };
-    let first = heap.malloc(&rt, alloc, &shelf, &mut ctx, 1000);
-    assert_eq!(rt; refusal_of(&rt, first), (0, 0, true));
-    let second = heap.malloc(&rt, alloc, &shelf, &mut ctx, 1000);
-    assert!(rt; matches!(second, Answered::Ok(Given::Region { .. })));
+    assert_eq!(rt; two_mallocs(&rt, alloc, boxes)?, (Some((0, 0, true)), None));
     Ok(())
 }
 
 #[test]
 fn refusals_of_a_box_are_told_by_their_places(rt: HostRuntime) -> Result<(), Fail> {
     let alloc = rt.alloc();
-    let Trial {
-        shelf,
-        heap,
-        mut ctxs,
-    } = share(alloc, fickle(alloc, 1)?, 1)?;
-    let Some(mut ctx) = last(&shelf, &heap, &mut ctxs) else {
-        panic!(rt; "there is a client")
-    };
-    for place in 0..2 {
-        let answer = heap.malloc(&rt, alloc, &shelf, &mut ctx, 1000);
-        assert_eq!(rt; refusal_of(&rt, answer), (0, place, false));
-    }
+    assert_eq!(rt;
+        two_mallocs(&rt, alloc, fickle(alloc, 1, None)?)?,
+        (Some((0, 0, false)), Some((0, 1, false)))
+    );
     Ok(())
+}
+
+/// A client makes a second arena, which asks box 3, and calls it.
+fn call_second<R: Wait + Abort>(
+    rt: &R,
+    alloc: Global,
+    shelf: &Shelf,
+    heap: &mut SharedHeap,
+    ctx: &mut Ctx,
+)
+    requires { MayCall (shelf_id shelf.now) heap.old ctx.old }
+{
+    is_done(rt, heap.create(rt, alloc, shelf, ctx, 3, 0));
+    assert_eq!(rt; (heap.box_no(1), heap.box_no(2)), (Some(3), None));
+    is_done(rt, heap.bind(rt, alloc, shelf, ctx, 1));
+    is_done(rt, heap.memalign(rt, alloc, shelf, ctx, 8192, 30000));
+    assert_eq!(rt; counts_of(rt, shelf, heap, ctx, 1).allocated, 32768);
+    is_done(rt, heap.purge(rt, alloc, shelf, ctx, 1));
+    is_done(rt, heap.decay(rt, alloc, shelf, ctx, 1, 5));
+    is_done(rt, heap.flush(rt, alloc, shelf, ctx));
 }
 
 #[test]
 fn a_client_calls_two_arenas(rt: HostRuntime) -> Result<(), Fail> {
     let alloc = rt.alloc();
-    let Trial {
+    let Single {
         shelf,
         mut heap,
-        mut ctxs,
-    } = share(alloc, rising(alloc)?, 1)?;
-    let Some(mut ctx) = last(&shelf, &heap, &mut ctxs) else {
-        panic!(rt; "there is a client")
-    };
-    is_done(&rt, heap.create(&rt, alloc, &shelf, &mut ctx, 3, 0));
-    assert_eq!(rt; (heap.box_no(1), heap.box_no(2)), (Some(3), None));
-    is_done(&rt, heap.bind(&rt, alloc, &shelf, &mut ctx, 1));
-    is_done(
-        &rt,
-        heap.memalign(&rt, alloc, &shelf, &mut ctx, 8192, 30000),
-    );
-    let Ok(counts) = heap.counts(&rt, &shelf, &mut ctx, 1) else {
-        panic!(rt; "arena 1 is live")
-    };
-    assert_eq!(rt; counts.allocated, 32768);
-    is_done(&rt, heap.purge(&rt, alloc, &shelf, &mut ctx, 1));
-    is_done(&rt, heap.decay(&rt, alloc, &shelf, &mut ctx, 1, 5));
-    is_done(&rt, heap.flush(&rt, alloc, &shelf, &mut ctx));
+        mut ctx,
+    } = single(alloc, fickle(alloc, 0, None)?)?;
+    call_second(&rt, alloc, &shelf, &mut heap, &mut ctx);
     Ok(())
+}
+
+/// A client widens a region, and then cuts it.
+fn resize_twice<R: Wait + Abort>(
+    rt: &R,
+    alloc: Global,
+    shelf: &Shelf,
+    heap: &SharedHeap,
+    ctx: &mut Ctx,
+)
+    requires { MayCall (shelf_id shelf.now) heap.now ctx.old }
+{
+    let addr = region_of(rt, heap.malloc(rt, alloc, shelf, ctx, 20000));
+    let widen = Request::Realloc { addr, size: 40960 };
+    assert_eq!(rt;
+        region_of(rt, heap.call(rt, alloc, shelf, ctx, &widen)),
+        addr
+    );
+    let cut = Request::Realloc { addr, size: 16384 };
+    assert_eq!(rt; region_of(rt, heap.call(rt, alloc, shelf, ctx, &cut)), addr);
+    assert_eq!(rt; counts_of(rt, shelf, heap, ctx, 0).allocated, 16384);
 }
 
 #[test]
 fn a_region_is_resized_where_it_is(rt: HostRuntime) -> Result<(), Fail> {
     let alloc = rt.alloc();
-    let Trial {
+    let Single {
         shelf,
         heap,
-        mut ctxs,
-    } = share(alloc, rising(alloc)?, 1)?;
-    let Some(mut ctx) = last(&shelf, &heap, &mut ctxs) else {
-        panic!(rt; "there is a client")
-    };
-    let addr = region_of(&rt, heap.malloc(&rt, alloc, &shelf, &mut ctx, 20000));
-    let widen = Request::Realloc { addr, size: 40960 };
-    let wider = heap.call(&rt, alloc, &shelf, &mut ctx, &widen);
-    let cut = Request::Realloc { addr, size: 16384 };
-    let narrower = heap.call(&rt, alloc, &shelf, &mut ctx, &cut);
-    assert_eq!(rt;
-        (region_of(&rt, wider), region_of(&rt, narrower)),
-        (addr, addr)
-    );
-    let Ok(counts) = heap.counts(&rt, &shelf, &mut ctx, 0) else {
-        panic!(rt; "arena 0 is live")
-    };
-    assert_eq!(rt; counts.allocated, 16384);
+        mut ctx,
+    } = single(alloc, fickle(alloc, 0, None)?)?;
+    resize_twice(&rt, alloc, &shelf, &heap, &mut ctx);
     Ok(())
+}
+
+/// Checks that the client has no explicit cache 0.
+fn has_none(rt: &impl Abort, answer: Answered) {
+    assert!(rt; matches!(answer, Answered::NoCache(0)));
+}
+
+/// A client makes an explicit cache, uses it, and ends it.
+fn use_cache<R: Wait + Abort>(
+    rt: &R,
+    alloc: Global,
+    shelf: &Shelf,
+    heap: &SharedHeap,
+    ctx: &mut Ctx,
+)
+    requires { MayCall (shelf_id shelf.now) heap.now ctx.old }
+{
+    let (slot, size) = (0, 20000);
+    let malloc = Request::MallocIn { slot, size };
+    has_none(rt, heap.call(rt, alloc, shelf, ctx, &malloc));
+    is_done(rt, heap.call(rt, alloc, shelf, ctx, &Request::NewCache));
+    let addr = region_of(rt, heap.call(rt, alloc, shelf, ctx, &malloc));
+    let free = Request::FreeIn { slot, addr };
+    is_done(rt, heap.call(rt, alloc, shelf, ctx, &free));
+    assert_eq!(rt;
+        region_of(rt, heap.call(rt, alloc, shelf, ctx, &malloc)),
+        addr
+    );
+    is_done(rt, heap.call(rt, alloc, shelf, ctx, &free));
+    is_done(
+        rt,
+        heap.call(rt, alloc, shelf, ctx, &Request::EndCache { slot }),
+    );
+    has_none(rt, heap.call(rt, alloc, shelf, ctx, &malloc));
 }
 
 #[test]
 fn an_explicit_cache_gives_its_region_again(rt: HostRuntime) -> Result<(), Fail> {
     let alloc = rt.alloc();
-    let Trial {
+    let Single {
         shelf,
         heap,
-        mut ctxs,
-    } = share(alloc, rising(alloc)?, 1)?;
-    let Some(mut ctx) = last(&shelf, &heap, &mut ctxs) else {
-        panic!(rt; "there is a client")
-    };
-    let malloc = Request::MallocIn {
-        slot: 0,
-        size: 20000,
-    };
-    let without = heap.call(&rt, alloc, &shelf, &mut ctx, &malloc);
-    assert!(rt; matches!(without, Answered::NoCache(0)));
-    is_done(
-        &rt,
-        heap.call(&rt, alloc, &shelf, &mut ctx, &Request::NewCache),
-    );
-    let addr = region_of(&rt, heap.call(&rt, alloc, &shelf, &mut ctx, &malloc));
-    let free = Request::FreeIn { slot: 0, addr };
-    is_done(&rt, heap.call(&rt, alloc, &shelf, &mut ctx, &free));
-    let again = heap.call(&rt, alloc, &shelf, &mut ctx, &malloc);
-    assert_eq!(rt; region_of(&rt, again), addr);
-    is_done(&rt, heap.call(&rt, alloc, &shelf, &mut ctx, &free));
-    let end = Request::EndCache { slot: 0 };
-    is_done(&rt, heap.call(&rt, alloc, &shelf, &mut ctx, &end));
-    let gone = heap.call(&rt, alloc, &shelf, &mut ctx, &malloc);
-    assert!(rt; matches!(gone, Answered::NoCache(0)));
+        mut ctx,
+    } = single(alloc, fickle(alloc, 0, None)?)?;
+    use_cache(&rt, alloc, &shelf, &heap, &mut ctx);
     Ok(())
 }

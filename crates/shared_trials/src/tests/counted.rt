@@ -3,14 +3,12 @@
 ghost use Rattle.std.specs.Prelude.{◌<◌};
 ghost use Rattle.heap_runs.specs.Heaps.{MayCall, shelf_id};
 
-use super::boxes::{FickleHooks, fickle};
-use super::heaps::{Trial, counts_of, is_done, last, share};
-use call_plan::{Answered, Given};
+use super::boxes::fickle;
+use super::heaps::{Shelf, Single, counts_of, given, is_done, single};
 use heap_runs::{Ctx, SharedHeap};
-use hook_api::SharedShelf;
 use size_classes::{CLASSES, SMALL_CLASSES, size_of};
 use space_model::Counts;
-use std::alloc::Global;
+use std::alloc::{AllocError as NoMemory, Global};
 use std::process::Abort;
 use std::sync::Wait;
 use std::test::Fail;
@@ -69,7 +67,7 @@ fn tell_more(rt: &impl Abort, before: &Counts, now: &Counts, class: u8, cached: 
 fn malloc_and_free<R: Wait + Abort>(
     rt: &R,
     alloc: Global,
-    shelf: &SharedShelf<FickleHooks>,
+    shelf: &Shelf,
     heap: &SharedHeap,
     ctx: &mut Ctx,
     size: u64,
@@ -80,29 +78,23 @@ fn malloc_and_free<R: Wait + Abort>(
     let before = counts_of(rt, shelf, heap, ctx, 0);
     let answer = heap.malloc(rt, alloc, shelf, ctx, size);
     let now = counts_of(rt, shelf, heap, ctx, 0);
-    let cached = ctx.desk().caches();
-    match answer {
-        Answered::Ok(Given::Region { addr, class }) => {
-            assert!(rt; class < CLASSES && size_of(class) >= size);
-            tell_more(rt, &before, &now, class, cached);
-            is_done(rt, heap.free(rt, alloc, shelf, ctx, addr));
-            is_done(rt, heap.flush(rt, alloc, shelf, ctx));
-            tell_the_same(rt, &before, &counts_of(rt, shelf, heap, ctx, 0));
-            false
-        }
-        Answered::Refused(_) => {
-            tell_the_same(rt, &before, &now);
-            true
-        }
-        _ => panic!(rt; "a malloc was answered otherwise"),
-    }
+    let Some((addr, class)) = given(rt, answer) else {
+        tell_the_same(rt, &before, &now);
+        return true;
+    };
+    assert!(rt; class < CLASSES && size_of(class) >= size);
+    tell_more(rt, &before, &now, class, ctx.desk().caches());
+    is_done(rt, heap.free(rt, alloc, shelf, ctx, addr));
+    is_done(rt, heap.flush(rt, alloc, shelf, ctx));
+    tell_the_same(rt, &before, &counts_of(rt, shelf, heap, ctx, 0));
+    false
 }
 
 /// Mallocs of many sizes, each with its free. How many were refused comes back.
 fn mallocs<R: Wait + Abort>(
     rt: &R,
     alloc: Global,
-    shelf: &SharedShelf<FickleHooks>,
+    shelf: &Shelf,
     heap: &SharedHeap,
     ctx: &mut Ctx,
 ) -> u64
@@ -110,8 +102,8 @@ fn mallocs<R: Wait + Abort>(
     ensures { MayCall (shelf_id shelf.now) heap.now ctx.new }
 {
     let mut refused: u64 = 0;
-    for round in 0..200 {
-        let size = 3 << (round % 20);
+    for round in 0..200_u32 {
+        let size = 3_u64 << (round % 20);
         if malloc_and_free(rt, alloc, shelf, heap, ctx, size) {
             refused = refused.saturating_add(1);
         }
@@ -121,15 +113,12 @@ fn mallocs<R: Wait + Abort>(
 
 /// A client without a cache mallocs, and then with one, over boxes that refuse one in so many asks. How many mallocs were refused comes
 /// back.
-fn count_over<R: Wait + Abort>(rt: &R, alloc: Global, one_in: u64) -> Result<u64, Fail> {
-    let Trial {
+fn count_over<R: Wait + Abort>(rt: &R, alloc: Global, one_in: u64) -> Result<u64, NoMemory> {
+    let Single {
         shelf,
         heap,
-        mut ctxs,
-    } = share(alloc, fickle(alloc, one_in)?, 1)?;
-    let Some(mut ctx) = last(&shelf, &heap, &mut ctxs) else {
-        panic!(rt; "there is a client")
-    };
+        mut ctx,
+    } = single(alloc, fickle(alloc, one_in, None)?)?;
     let without = mallocs(rt, alloc, &shelf, &heap, &mut ctx);
     is_done(rt, heap.set_cache(rt, alloc, &shelf, &mut ctx, true));
     let with = mallocs(rt, alloc, &shelf, &heap, &mut ctx);

@@ -4,13 +4,12 @@ ghost use Rattle.std.specs.Prelude.{◌≡◌, ◌<◌, length, IfOk};
 ghost use Rattle.std.specs.List.{All};
 ghost use Rattle.heap_runs.specs.Heaps.{MayCall, shelf_id};
 
-use super::boxes::{FickleHooks, fickle};
-use super::heaps::{Trial, ended, is_done, share};
+use super::boxes::fickle;
+use super::heaps::{Shelf, Trial, ended, is_done, share};
 use super::replays::{Machine, agree};
 use super::workers::{Board, Worker, call};
 use call_plan::Request;
 use heap_runs::{Ctx, SharedHeap};
-use hook_api::SharedShelf;
 use std::alloc::{AllocError as NoMemory, Global};
 use std::process::Abort;
 use std::sync::Wait;
@@ -37,7 +36,7 @@ const STEP: u64 = 10_000_000;
 fn make_arenas<R: Wait + Abort>(
     rt: &R,
     alloc: Global,
-    shelf: &SharedShelf<FickleHooks>,
+    shelf: &Shelf,
     heap: &SharedHeap,
     ctx: &mut Ctx,
 )
@@ -55,11 +54,27 @@ fn make_arenas<R: Wait + Abort>(
     }
 }
 
+/// The first of the clients makes the arenas.
+fn prepare<R: Wait + Abort>(
+    rt: &R,
+    alloc: Global,
+    shelf: &Shelf,
+    heap: &SharedHeap,
+    ctxs: &mut Vec<Ctx>,
+)
+    requires some { 0 < length ctxs.old.items }
+    requires may { All (MayCall (shelf_id shelf.now) heap.now) ctxs.old.items }
+    ensures count { length ctxs.new.items ≡ length ctxs.old.items }
+    ensures may { All (MayCall (shelf_id shelf.now) heap.now) ctxs.new.items }
+{
+    make_arenas(rt, alloc, shelf, heap, &mut ctxs[0]);
+}
+
 /// All calls of a client, in the arena that its number chooses.
 fn work<R: Wait + Abort>(
     rt: &R,
     alloc: Global,
-    shelf: &SharedShelf<FickleHooks>,
+    shelf: &Shelf,
     heap: &SharedHeap,
     board: &Board,
     calls: u64,
@@ -83,7 +98,7 @@ fn work<R: Wait + Abort>(
 fn work_at_once<R: Threads + Wait + Abort + Sync>(
     rt: &R,
     alloc: Global,
-    shelf: &SharedShelf<FickleHooks>,
+    shelf: &Shelf,
     heap: &SharedHeap,
     board: &Board,
     calls: u64,
@@ -113,8 +128,8 @@ fn crowd<R: Threads + Wait + Abort + Sync>(
         shelf,
         heap,
         mut ctxs,
-    } = share(alloc, fickle(alloc, one_in)?, CLIENTS)?;
-    make_arenas(rt, alloc, &shelf, &heap, &mut ctxs[0]);
+    } = share(alloc, fickle(alloc, one_in, None)?, CLIENTS)?;
+    prepare(rt, alloc, &shelf, &heap, &mut ctxs);
     let board = Board::new(alloc);
     let ctxs = work_at_once(rt, alloc, &shelf, &heap, &board, calls, ctxs)?;
     let closed = ended(alloc, &shelf, heap, ctxs)?;

@@ -5,11 +5,10 @@ ghost use Rattle.call_plan.specs.Laws.{IsInRange};
 ghost use Rattle.heap_runs.specs.Heaps.{MayCall, shelf_id};
 ghost use Rattle.heap_runs.specs.Walks.{MayWork};
 
-use super::boxes::rising;
-use super::heaps::{Trial, ended, last, share};
+use super::boxes::fickle;
+use super::heaps::{Shelf, Trial, ended, last, share};
 use call_plan::Request;
 use heap_runs::{Closed, Ctx, Job, SharedHeap};
-use hook_api::{RisingHooks, SharedShelf};
 use std::alloc::{AllocError as NoMemory, Global};
 use std::test::Fail;
 
@@ -30,12 +29,7 @@ fn requests(alloc: Global) -> Result<Vec<Request>, NoMemory>
 }
 
 /// What the worker of a client is to do.
-fn job(
-    alloc: Global,
-    shelf: &SharedShelf<RisingHooks>,
-    heap: &SharedHeap,
-    ctx: Ctx,
-) -> Result<Job, NoMemory>
+fn job(alloc: Global, shelf: &Shelf, heap: &SharedHeap, ctx: Ctx) -> Result<Job, NoMemory>
     requires { MayCall (shelf_id shelf.now) heap.now ctx }
     ensures { IfOk result (MayWork shelf.now heap.now) }
 {
@@ -46,7 +40,7 @@ fn job(
 /// A job for each client.
 fn jobs(
     alloc: Global,
-    shelf: &SharedShelf<RisingHooks>,
+    shelf: &Shelf,
     heap: &SharedHeap,
     mut ctxs: Vec<Ctx>,
 ) -> Result<Vec<Job>, NoMemory>
@@ -64,7 +58,7 @@ fn jobs(
 #[test]
 fn clients_in_threads_share_an_arena(rt: HostRuntime) -> Result<(), Fail> {
     let alloc = rt.alloc();
-    let Trial { shelf, heap, ctxs } = share(alloc, rising(alloc)?, 8)?;
+    let Trial { shelf, heap, ctxs } = share(alloc, fickle(alloc, 0, None)?, 8)?;
     let jobs = jobs(alloc, &shelf, &heap, ctxs)?;
     let ctxs = heap.phase(&rt, alloc, &shelf, jobs)?;
     let Closed {

@@ -3,12 +3,10 @@
 ghost use Rattle.call_plan.specs.Laws.{IsInRange};
 ghost use Rattle.heap_runs.specs.Heaps.{MayCall, shelf_id};
 
-use super::boxes::FickleHooks;
 use super::draws::Draws;
-use super::heaps::{is_done, region_of};
-use call_plan::{Answered, Given, Request};
+use super::heaps::Shelf;
+use call_plan::{Answered, Desk, Given, Request};
 use heap_runs::{Ctx, SharedHeap};
-use hook_api::SharedShelf;
 use std::alloc::Global;
 use std::process::Abort;
 use std::sync::atomic::{AtomicU64, Ordering};
@@ -58,10 +56,35 @@ impl Board {
     }
 }
 
-/// What a worker has beside its context: the addresses of the regions that its client holds, and its seed's numbers.
+/// What a worker does next, as a number tells it.
+#[derive(Clone, Copy, PartialEq, Eq)]
+enum Aim {
+    Tend,
+    Publish,
+    Take,
+    Resize,
+    Free,
+    Get,
+}
+
+impl Aim {
+    /// What a number aims at: at regions most often.
+    fn of(drawn: u64) -> Aim {
+        match drawn % 128 {
+            0..=2 => Aim::Tend,
+            3..=8 => Aim::Publish,
+            9..=14 => Aim::Take,
+            15..=24 => Aim::Resize,
+            25..=73 => Aim::Free,
+            _ => Aim::Get,
+        }
+    }
+}
+
+/// What a worker has beside its context: the regions that its client holds, and its seed's numbers.
 #[derive(Drop)]
 pub(crate) struct Worker {
-    held: Vec<u64>,
+    held: Vec<Held>,
     draws: Draws,
 }
 
@@ -75,7 +98,7 @@ impl Worker {
     }
 
     /// Takes one of the regions that are held, if there is one.
-    fn take(&mut self) -> Option<u64> {
+    fn take(&mut self) -> Option<Held> {
         let count = self.held.len();
         if count == 0 {
             return None;
@@ -85,8 +108,27 @@ impl Worker {
     }
 
     /// Holds one more region.
-    fn hold(&mut self, rt: &impl Abort, addr: u64) {
-        self.held.push(addr).expect(rt, "memory for an address");
+    fn hold(&mut self, rt: &impl Abort, region: Held) {
+        self.held.push(region).expect(rt, "memory for a region");
+    }
+
+    /// What the worker aims at: it gets no more than it may hold.
+    fn some_aim(&mut self) -> Aim {
+        let aim = Aim::of(self.draws.draw());
+        if aim == Aim::Get && self.held.len() >= MOST_HELD {
+            Aim::Free
+        } else {
+            aim
+        }
+    }
+
+    /// The region that an aim is about: one that is held, or one that was published. There may be none.
+    fn some_region<R: Wait>(&mut self, rt: &R, board: &Board, aim: Aim) -> Option<Held> {
+        match aim {
+            Aim::Tend | Aim::Get => None,
+            Aim::Take => board.next(rt),
+            Aim::Publish | Aim::Resize | Aim::Free => self.take(),
+        }
     }
 
     /// A size: most are small.
@@ -112,8 +154,8 @@ impl Worker {
         }
     }
 
-    /// A call that is made now and then, of an arena and a moment.
-    fn some_rare(&mut self, arena: u32, now: u64) -> Request
+    /// A purge or a decay of an arena at a moment, or a flush of the cache.
+    fn some_tending(&mut self, arena: u32, now: u64) -> Request
         ensures { IsInRange result }
     {
         match self.draws.draw() % 8 {
@@ -122,139 +164,82 @@ impl Worker {
             _ => Request::Flush,
         }
     }
-}
 
-/// A call for a region, which a box may refuse.
-fn get<R: Wait + Abort>(
-    rt: &R,
-    alloc: Global,
-    shelf: &SharedShelf<FickleHooks>,
-    heap: &SharedHeap,
-    board: &Board,
-    ctx: &mut Ctx,
-    own: &mut Worker,
-)
-    requires { MayCall (shelf_id shelf.now) heap.now ctx.old }
-    ensures { MayCall (shelf_id shelf.now) heap.now ctx.new }
-{
-    let request = own.some_get();
-    match heap.call(rt, alloc, shelf, ctx, &request) {
-        Answered::Ok(Given::Region { addr, .. }) => own.hold(rt, addr),
-        Answered::Refused(_) => board.note_refusal(),
-        _ => panic!(rt; "a call for a region was answered otherwise"),
-    }
-}
-
-/// A realloc of a region that the client holds, if it holds one, which a box may refuse.
-fn resize<R: Wait + Abort>(
-    rt: &R,
-    alloc: Global,
-    shelf: &SharedShelf<FickleHooks>,
-    heap: &SharedHeap,
-    board: &Board,
-    ctx: &mut Ctx,
-    own: &mut Worker,
-)
-    requires { MayCall (shelf_id shelf.now) heap.now ctx.old }
-    ensures { MayCall (shelf_id shelf.now) heap.now ctx.new }
-{
-    let Some(addr) = own.take() else {
-        return;
-    };
-    let size = own.some_size();
-    match heap.call(rt, alloc, shelf, ctx, &Request::Realloc { addr, size }) {
-        Answered::Ok(Given::Region { addr, .. }) => own.hold(rt, addr),
-        Answered::Refused(_) => {
-            board.note_refusal();
-            own.hold(rt, addr);
+    /// The call by which an aim is reached with a region.
+    fn call_with(&mut self, aim: Aim, region: Held) -> Request
+        ensures { IsInRange result }
+    {
+        let Held { addr, arena, .. } = region;
+        match aim {
+            Aim::Publish => Request::Publish { addr },
+            Aim::Take => Request::Take { addr, arena },
+            Aim::Resize => Request::Realloc {
+                addr,
+                size: self.some_size(),
+            },
+            _ => Request::Free { addr },
         }
-        _ => panic!(rt; "a realloc was answered otherwise"),
+    }
+
+    /// The call by which an aim is reached with a region. Where there is none a region is got, if nothing is tended in the arena at
+    /// that moment.
+    fn some_call(&mut self, aim: Aim, region: Option<Held>, arena: u32, now: u64) -> Request
+        ensures { IsInRange result }
+    {
+        match region {
+            Some(region) => self.call_with(aim, region),
+            None if aim == Aim::Tend => self.some_tending(arena, now),
+            None => self.some_get(),
+        }
+    }
+
+    /// Takes in what came of a call, which was about a region: what the client holds, what it published, and whether a box refused.
+    fn take_in<R: Wait + Abort>(
+        &mut self,
+        rt: &R,
+        board: &Board,
+        desk: &Desk,
+        aim: Aim,
+        region: Option<Held>,
+        answer: Answered,
+    ) {
+        match (answer, region) {
+            (Answered::Ok(Given::Region { addr, .. }), _) => {
+                let region = desk.held_at(addr).expect(rt, "the region is held");
+                self.hold(rt, region);
+            }
+            (Answered::Refused(_), region) => {
+                board.note_refusal();
+                if let Some(region) = region {
+                    self.hold(rt, region);
+                }
+            }
+            (_, Some(region)) if aim == Aim::Publish => board.put(rt, region),
+            _ => (),
+        }
     }
 }
 
-/// A free of a region that the client holds, if it holds one.
-fn free<R: Wait + Abort>(
-    rt: &R,
-    alloc: Global,
-    shelf: &SharedShelf<FickleHooks>,
-    heap: &SharedHeap,
-    ctx: &mut Ctx,
-    own: &mut Worker,
-)
-    requires { MayCall (shelf_id shelf.now) heap.now ctx.old }
-    ensures { MayCall (shelf_id shelf.now) heap.now ctx.new }
-{
-    if let Some(addr) = own.take() {
-        is_done(rt, heap.free(rt, alloc, shelf, ctx, addr));
+/// Whether an answer is one that a call may have here: a region, which a box may refuse, where one is asked for; the region itself, where
+/// one is taken over; and no failure of anything else.
+fn is_fitting(request: &Request, answer: &Answered) -> bool {
+    match request {
+        Request::Malloc { .. } | Request::Memalign { .. } | Request::Realloc { .. } => matches!(
+            answer,
+            Answered::Ok(Given::Region { .. }) | Answered::Refused(_)
+        ),
+        Request::Take { addr, .. } => {
+            matches!(answer, Answered::Ok(Given::Region { addr: taken, .. }) if taken == addr)
+        }
+        _ => matches!(answer, Answered::Ok(_)),
     }
-}
-
-/// The client publishes a region that it holds, if it holds one.
-fn publish<R: Wait + Abort>(
-    rt: &R,
-    alloc: Global,
-    shelf: &SharedShelf<FickleHooks>,
-    heap: &SharedHeap,
-    board: &Board,
-    ctx: &mut Ctx,
-    own: &mut Worker,
-)
-    requires { MayCall (shelf_id shelf.now) heap.now ctx.old }
-    ensures { MayCall (shelf_id shelf.now) heap.now ctx.new }
-{
-    let Some(addr) = own.take() else {
-        return;
-    };
-    let Some(region) = ctx.desk().held_at(addr) else {
-        panic!(rt; "the client holds the region")
-    };
-    is_done(rt, heap.publish(rt, alloc, shelf, ctx, addr));
-    board.put(rt, region);
-}
-
-/// The client takes over the region that was published last, if one is left.
-fn take_over<R: Wait + Abort>(
-    rt: &R,
-    alloc: Global,
-    shelf: &SharedShelf<FickleHooks>,
-    heap: &SharedHeap,
-    board: &Board,
-    ctx: &mut Ctx,
-    own: &mut Worker,
-)
-    requires { MayCall (shelf_id shelf.now) heap.now ctx.old }
-    ensures { MayCall (shelf_id shelf.now) heap.now ctx.new }
-{
-    let Some(Held { addr, arena, .. }) = board.next(rt) else {
-        return;
-    };
-    let answer = heap.take_over(rt, alloc, shelf, ctx, addr, arena);
-    assert_eq!(rt; region_of(rt, answer), addr);
-    own.hold(rt, addr);
-}
-
-/// A purge or a decay of the arena from which the client allocates, or a flush of its cache.
-fn tend<R: Wait + Abort>(
-    rt: &R,
-    alloc: Global,
-    shelf: &SharedShelf<FickleHooks>,
-    heap: &SharedHeap,
-    ctx: &mut Ctx,
-    own: &mut Worker,
-    now: u64,
-)
-    requires { MayCall (shelf_id shelf.now) heap.now ctx.old }
-    ensures { MayCall (shelf_id shelf.now) heap.now ctx.new }
-{
-    let request = own.some_rare(ctx.desk().arena(), now);
-    is_done(rt, heap.call(rt, alloc, shelf, ctx, &request));
 }
 
 /// One call of a worker, at a moment in nanoseconds.
 pub(crate) fn call<R: Wait + Abort>(
     rt: &R,
     alloc: Global,
-    shelf: &SharedShelf<FickleHooks>,
+    shelf: &Shelf,
     heap: &SharedHeap,
     board: &Board,
     ctx: &mut Ctx,
@@ -264,13 +249,10 @@ pub(crate) fn call<R: Wait + Abort>(
     requires { MayCall (shelf_id shelf.now) heap.now ctx.old }
     ensures { MayCall (shelf_id shelf.now) heap.now ctx.new }
 {
-    match own.draws.draw() % 128 {
-        0..=2 => tend(rt, alloc, shelf, heap, ctx, own, now),
-        3..=8 => publish(rt, alloc, shelf, heap, board, ctx, own),
-        9..=14 => take_over(rt, alloc, shelf, heap, board, ctx, own),
-        15..=24 => resize(rt, alloc, shelf, heap, board, ctx, own),
-        25..=73 => free(rt, alloc, shelf, heap, ctx, own),
-        _ if own.held.len() < MOST_HELD => get(rt, alloc, shelf, heap, board, ctx, own),
-        _ => free(rt, alloc, shelf, heap, ctx, own),
-    }
+    let aim = own.some_aim();
+    let region = own.some_region(rt, board, aim);
+    let request = own.some_call(aim, region, ctx.desk().arena(), now);
+    let answer = heap.call(rt, alloc, shelf, ctx, &request);
+    assert!(rt; is_fitting(&request, &answer));
+    own.take_in(rt, board, ctx.desk(), aim, region, answer);
 }
