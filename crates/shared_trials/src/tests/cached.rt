@@ -3,7 +3,7 @@
 ghost use Rattle.heap_runs.specs.Heaps.{MayCall, shelf_id};
 
 use super::boxes::fickle;
-use super::heaps::{Shelf, Single, counts_of, given, is_done, region_of, single};
+use super::heaps::{Shelf, Single, counts_of, given, is_done, region_of, share_one};
 use heap_runs::{CachedFree, Ctx, SharedHeap};
 use std::alloc::{AllocError as NoMemory, Global};
 use std::process::Abort;
@@ -133,7 +133,7 @@ fn cache_over<R: Wait + Abort>(rt: &R, alloc: Global, one_in: u64) -> Result<u64
         shelf,
         heap,
         mut ctx,
-    } = single(alloc, fickle(alloc, one_in, None)?)?;
+    } = share_one(alloc, fickle(alloc, one_in, None)?)?;
     cache_all(rt, alloc, &shelf, &heap, &mut ctx)
 }
 
@@ -208,7 +208,7 @@ fn a_desk_tells_why_it_caches_no_region(rt: HostRuntime) -> Result<(), Fail> {
         shelf,
         heap,
         mut ctx,
-    } = single(alloc, fickle(alloc, 0, None)?)?;
+    } = share_one(alloc, fickle(alloc, 0, None)?)?;
     overfill(&rt, alloc, &shelf, &heap, &mut ctx)?;
     Ok(())
 }

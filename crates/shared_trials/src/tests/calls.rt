@@ -3,7 +3,7 @@
 ghost use Rattle.heap_runs.specs.Heaps.{MayCall, shelf_id};
 
 use super::boxes::{FickleHooks, fickle};
-use super::heaps::{Shelf, Single, counts_of, is_done, region_of, single};
+use super::heaps::{Shelf, Single, counts_of, is_done, region_of, share_one};
 use call_plan::{Answered, Given, Request};
 use heap_runs::{Ctx, SharedHeap};
 use hook_api::{HookShelf, Kind};
@@ -34,7 +34,7 @@ fn two_mallocs<R: Wait + Abort>(
         shelf,
         heap,
         mut ctx,
-    } = single(alloc, boxes)?;
+    } = share_one(alloc, boxes)?;
     let first = refusal_of(rt, heap.malloc(rt, alloc, &shelf, &mut ctx, 1000));
     let second = refusal_of(rt, heap.malloc(rt, alloc, &shelf, &mut ctx, 1000));
     Ok((first, second))
@@ -86,7 +86,7 @@ fn a_client_calls_two_arenas(rt: HostRuntime) -> Result<(), Fail> {
         shelf,
         mut heap,
         mut ctx,
-    } = single(alloc, fickle(alloc, 0, None)?)?;
+    } = share_one(alloc, fickle(alloc, 0, None)?)?;
     call_second(&rt, alloc, &shelf, &mut heap, &mut ctx);
     Ok(())
 }
@@ -119,7 +119,7 @@ fn a_region_is_resized_where_it_is(rt: HostRuntime) -> Result<(), Fail> {
         shelf,
         heap,
         mut ctx,
-    } = single(alloc, fickle(alloc, 0, None)?)?;
+    } = share_one(alloc, fickle(alloc, 0, None)?)?;
     resize_twice(&rt, alloc, &shelf, &heap, &mut ctx);
     Ok(())
 }
@@ -165,7 +165,7 @@ fn an_explicit_cache_gives_its_region_again(rt: HostRuntime) -> Result<(), Fail>
         shelf,
         heap,
         mut ctx,
-    } = single(alloc, fickle(alloc, 0, None)?)?;
+    } = share_one(alloc, fickle(alloc, 0, None)?)?;
     use_cache(&rt, alloc, &shelf, &heap, &mut ctx);
     Ok(())
 }

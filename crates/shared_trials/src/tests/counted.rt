@@ -4,7 +4,7 @@ ghost use Rattle.std.specs.Prelude.{◌<◌};
 ghost use Rattle.heap_runs.specs.Heaps.{MayCall, shelf_id};
 
 use super::boxes::fickle;
-use super::heaps::{Shelf, Single, counts_of, given, is_done, single};
+use super::heaps::{Shelf, Single, counts_of, given, is_done, share_one};
 use heap_runs::{Ctx, SharedHeap};
 use size_classes::{CLASSES, SMALL_CLASSES, size_of};
 use space_model::Counts;
@@ -118,7 +118,7 @@ fn count_over<R: Wait + Abort>(rt: &R, alloc: Global, one_in: u64) -> Result<u64
         shelf,
         heap,
         mut ctx,
-    } = single(alloc, fickle(alloc, one_in, None)?)?;
+    } = share_one(alloc, fickle(alloc, one_in, None)?)?;
     let without = mallocs(rt, alloc, &shelf, &heap, &mut ctx);
     is_done(rt, heap.set_cache(rt, alloc, &shelf, &mut ctx, true));
     let with = mallocs(rt, alloc, &shelf, &heap, &mut ctx);

@@ -5,7 +5,7 @@ ghost use Rattle.space_model.specs.Settings.{is_decay_time};
 ghost use Rattle.heap_runs.specs.Heaps.{MayCall, shelf_id};
 
 use super::boxes::fickle;
-use super::heaps::{Shelf, Single, Trial, counts_of, is_done, last, region_of, share, single};
+use super::heaps::{Shelf, Single, Trial, counts_of, is_done, last, region_of, share, share_one};
 use call_plan::Answered;
 use heap_runs::{Ctx, SharedHeap};
 use space_model::Rest;
@@ -114,7 +114,7 @@ fn a_decay_time_of_0_lets_no_page_stay_dirty(rt: HostRuntime) -> Result<(), Fail
         shelf,
         heap,
         mut ctx,
-    } = single(alloc, fickle(alloc, 0, None)?)?;
+    } = share_one(alloc, fickle(alloc, 0, None)?)?;
     assert_eq!(rt; dirty_left(&rt, alloc, &shelf, &heap, &mut ctx, -1), 20480);
     assert_eq!(rt; dirty_left(&rt, alloc, &shelf, &heap, &mut ctx, 0), 0);
     Ok(())

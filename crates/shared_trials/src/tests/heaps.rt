@@ -62,7 +62,7 @@ pub(crate) fn last(shelf: &Shelf, heap: &SharedHeap, ctxs: &mut Vec<Ctx>) -> Opt
 }
 
 /// A heap of one client over these boxes.
-pub(crate) fn single(alloc: Global, boxes: HookShelf<FickleHooks>) -> Result<Single, NoMemory>
+pub(crate) fn share_one(alloc: Global, boxes: HookShelf<FickleHooks>) -> Result<Single, NoMemory>
     ensures { IfOk result (λ single. MayCall (shelf_id single.shelf) single.heap single.ctx) }
 {
     let Trial {
