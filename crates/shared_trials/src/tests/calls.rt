@@ -4,7 +4,7 @@ ghost use Rattle.heap_runs.specs.Heaps.{MayCall, shelf_id};
 
 use super::boxes::{FickleHooks, fickle};
 use super::heaps::{Shelf, Single, counts_of, is_done, region_of, share_one};
-use call_plan::{Answered, Given, Request};
+use call_plan::{Answered, Request};
 use heap_runs::{Ctx, SharedHeap};
 use hook_api::{HookShelf, Kind};
 use std::alloc::{AllocError as NoMemory, Global};
@@ -17,11 +17,11 @@ type Refusal = Option<(u32, u64, bool)>;
 
 /// Who refused the region that a call asked for, if it was refused.
 fn refusal_of(rt: &impl Abort, answer: Answered) -> Refusal {
-    match answer {
-        Answered::Refused(asked) => Some((asked.box_no(), asked.place(), asked.planned())),
-        Answered::Ok(Given::Region { .. }) => None,
-        _ => panic!(rt; "no region was given, and none refused"),
-    }
+    let Answered::Refused(asked) = answer else {
+        region_of(rt, answer);
+        return None;
+    };
+    Some((asked.box_no(), asked.place(), asked.planned()))
 }
 
 /// Who refused two regions that a client asked these boxes for.

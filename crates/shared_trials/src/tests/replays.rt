@@ -1,6 +1,7 @@
 //! Journals that a heap left, replayed by one thread.
 
-ghost use Rattle.std.specs.Prelude.{◌≡◌, ◌⊎◌};
+ghost use Rattle.std.specs.Prelude.{◌≡◌, ◌⊎◌, []};
+ghost use Rattle.space_model.specs.Journal.{Good};
 ghost use Rattle.space_model.specs.Opening.{absent_space, first_space};
 ghost use Rattle.space_model.specs.Sound.{Sound};
 
@@ -24,7 +25,7 @@ pub(crate) enum Machine {
 /// The space of the arena with an index before its first entry.
 fn opening(alloc: Global, index: u32) -> Space
     ensures begins { (result ≡ absent_space) ⊎ (result ≡ first_space) }
-    ensures sound { Sound result }
+    ensures good { Good [] result }
 {
     if index == 0 {
         Space::first(alloc)
@@ -43,7 +44,7 @@ fn scan(rt: &impl Abort, space: &mut Space, entry: &Entry)
     requires { Sound space.old }
     ensures { Sound space.new }
 {
-    assert!(rt; may_stand(space, entry), "{entry:?}");
+    assert!(rt; may_stand(space, entry));
     plain_step(space, entry).expect(rt, "memory for the space");
 }
 
@@ -63,7 +64,7 @@ fn scanned(rt: &impl Abort, alloc: Global, journal: &Journal) -> Option<Counts> 
 /// An arena takes the next entry in, which has to stand.
 fn step(rt: &impl Abort, arena: &mut Arena, entry: &Entry) {
     let Entry { client, op } = entry;
-    assert!(rt; arena.may_stand(*client, op), "{entry:?}");
+    assert!(rt; arena.may_stand(*client, op));
     arena.make_room(*client).expect(rt, "memory for room");
     arena.step(*client, op).expect(rt, "memory for the arena");
 }

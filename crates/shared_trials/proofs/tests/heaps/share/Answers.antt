@@ -1,4 +1,4 @@
-use Rattle.heap_runs.specs.Heaps.{MayCall, shelf_id}
+use Rattle.heap_runs.specs.Heaps.{shelf_id}
 use Rattle.shared_trials.proofs.tests.heaps.share.Goals as goal
 
 pub returns-in-Ok-clause-may : goal.returns-in-Ok-clause-may

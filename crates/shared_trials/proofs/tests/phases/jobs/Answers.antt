@@ -11,6 +11,6 @@ loop-ctx-preserved c =
     let May : Job → Type 0 = MayWork {H = FickleHooks} c.args.shelf.now c.args.heap.now in
     record {
       ctxs = c.last.ensures.rest;
-      jobs = subst (All May) (sym c.in_ok-push.ensures.items) (All-push May c.loop-ctx.jobs.items c.in_ok-job.field-0 c.loop-ctx.invariant.jobs c.in_ok-job.ensures);
+      jobs = subst (All May) (sym {A = List Job} c.in_ok-push.ensures.items) (All-push May c.loop-ctx.jobs.items c.in_ok-job.field-0 c.loop-ctx.invariant.jobs c.in_ok-job.ensures);
       count = grind (arith, c.loop-ctx.invariant.count, c.in-Some.ensures.fewer, c.in_ok-push.ensures.items);
     }
