@@ -40,7 +40,7 @@ module _ {H : Type 0} (shelf : SharedShelf H) (heap : SharedHeap) where
   pub made_one : (old new : Ctx) (request : Request) (answer : Answered) → MayCall (shelf_id shelf) heap new → CallDid shelf heap old new request answer → is_ok answer ≡ true → Made shelf heap old (request ∷ []) new
   made_one old new request answer may (inl called) ok =
       let done : Done = record { request = request; dids = called.dids; answer = answer } in record {
-        worked = record { calls = done ∷ []; asked = refl; walk = (new.desk.facts, inl called.call, refl); gains = subst (Gains shelf heap old new) (sym (append-nil called.dids)) called.gains; may = may };
+        worked = record { calls = done ∷ []; asked = refl; walk = (new.desk.facts, inl (called.call, called.met), refl); gains = subst (Gains shelf heap old new) (sym (append-nil called.dids)) called.gains; may = may };
         well = All-cons WentWell done [] ok (All-nil WentWell);
       }
   made_one old new request answer may (inr none) ok = absurd (let bad : is_ok NoMemory ≡ true = subst (λ a. is_ok a ≡ true) none.told ok in cc)
@@ -52,7 +52,7 @@ module _ {H : Type 0} (shelf : SharedShelf H) (heap : SharedHeap) where
         last = request;
         later = [];
         beginning = refl;
-        worked = record { calls = done ∷ []; asked = refl; walk = (new.desk.facts, inl called.call, refl); gains = subst (Gains shelf heap old new) (sym (append-nil called.dids)) called.gains; may = may };
+        worked = record { calls = done ∷ []; asked = refl; walk = (new.desk.facts, inl (called.call, called.met), refl); gains = subst (Gains shelf heap old new) (sym (append-nil called.dids)) called.gains; may = may };
         well = [];
         calls = (done, refl, refl);
         all_well = All-nil WentWell;

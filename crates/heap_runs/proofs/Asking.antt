@@ -26,6 +26,7 @@ module _ (shelf : TableId) (heap : SharedHeap) (ctx : Ctx) (is : IsCtxOf shelf h
       arenas = is.arenas;
       comes = asks-sit false rs c desk call need.0 asked is.arenas is.ways.few need.1 (sits_of rs c (moment_at open_call desk) need.0 need.1 stands.comes.1) (need.2 ∙ ap WantAsk (sym of_ask)) answers;
       wanted = subst (λ n. IsWantedAt c call.stage.arena n (Asked call.stage.arena asked)) (sym need.1) (subst (λ w. IsWanted c call.stage.arena w (Asked call.stage.arena asked)) (sym need.2) (refl, of_ask));
+      met = answers;
       box = λ last box_no its. box_asked (moment_at open_call desk) need.0 ask asked last box_no need.1 need.2;
       turns = λ i. sym (append-nil _);
     }
@@ -44,6 +45,7 @@ module _ (shelf : TableId) (heap : SharedHeap) (ctx : Ctx) (is : IsCtxOf shelf h
       arenas = is.arenas;
       comes = starves-sit false rs c desk call at.0 at.1 at.2 is.arenas is.ways.few at.3 (sits_of rs c (moment_at open_call desk) at.0 at.3 stands.comes.1) at.4 at.5;
       wanted = subst (λ n. IsWantedAt c call.stage.arena n Lacked) (sym at.3) (subst (λ w. IsWanted c call.stage.arena w Lacked) (sym at.4) at.5);
+      met = tt;
       box = λ last box_no its. box_lacked (moment_at open_call desk) at.0 last box_no at.3;
       turns = λ i. sym (append-nil _);
     }

@@ -4,7 +4,8 @@ use Rattle.heap_runs.proofs.Knowing.{known_all, known_at, same_arenas, same_seat
 use Rattle.heap_runs.proofs.Needing.{may_stand, named_hears, sits_of, turn_needed}
 use Rattle.heap_runs.proofs.Leaving.{Leaves}
 use Rattle.heap_runs.proofs.Passing.{IsWayOf, its_pass, knows, left_so, lock_low, logged, own_met, pass_low, seen_else, seen_same, turns_turned, way_of, ways_turned}
-use Rattle.heap_runs.proofs.Turning.{turn_leaves}
+use Rattle.heap_runs.proofs.Turning.{turn_leaves, turn_met}
+use Rattle.heap_runs.specs.Meets.{Meets, TurnMeets}
 
 -- what opens a unit of a call may find no memory
 opens_marked : (point : Point) (op : Op) (asked : Option AskFacts) → want point ≡ WantTurn op asked → opens op ≡ true → is_marked op ≡ true
@@ -110,6 +111,14 @@ module _ (shelf : TableId) (heap : SharedHeap) (ctx : Ctx) (is : IsCtxOf shelf h
             (subst (λ n. state_of table n (seen_at later n) ≡ (after_entry met t.entry).0) home (left_so heap ctx a lock old way new doing told same t))
             (λ i far. seen_else heap ctx a lock old way new i (λ e. far (e ∙ home))) told t.reply
 
+        -- what the turn met
+        met_so : Meets c call.stage.next (Took a t.entry.value told)
+        met_so = subst (λ n. Meets c n (Took a t.entry.value told)) (sym goes) (subst (λ n. TurnMeets c n (Go point) t.entry.value told) (sym home)
+            (turn_met table c (seen_at passes) (seen_at later) desk call point turn.op asked arenas is.ways.few goes sits wants met t.entry log
+            (subst (λ n. owned_by met c ≡ owned_by (state_of table n (seen_at passes n)) c) home (own_met heap ctx a lock old way new doing told same t))
+            (subst (λ n. state_of table n (seen_at later n) ≡ (after_entry met t.entry).0) home (left_so heap ctx a lock old way new doing told same t))
+            (λ i far. seen_else heap ctx a lock old way new i (λ e. far (e ∙ home))) told t.reply))
+
         -- the box that it told is one of the shelf
         pub ok_box : told.box_no < 32
         ok_box = turned.1
@@ -120,6 +129,7 @@ module _ (shelf : TableId) (heap : SharedHeap) (ctx : Ctx) (is : IsCtxOf shelf h
           arenas = turned.0;
           comes = turned.2;
           wanted = subst (λ n. IsWantedAt c call.stage.arena n (Took a t.entry.value told)) (sym goes) (subst (λ w. IsWanted c call.stage.arena w (Took a t.entry.value told)) (sym wants) (home, (log.chunk, log.is)));
+          met = met_so;
           box = λ last box_no its. subst (λ n. HasBox (after (moment_at open_call desk) (Replied told.reply)).stage (Some (n, told.box_no)) box_no) (sym home)
               (subst (λ b. HasBox (after (moment_at open_call desk) (Replied told.reply)).stage (Some (call.stage.arena, told.box_no)) b) (sym its) (box_after (moment_at open_call desk) (Replied told.reply) told.box_no));
           turns = turns_turned heap ctx a lock old way new doing told same t;
@@ -144,6 +154,7 @@ module _ (shelf : TableId) (heap : SharedHeap) (ctx : Ctx) (is : IsCtxOf shelf h
               arenas = same_arenas rs (known table (seen_at later)) (known_all table (seen_at passes)) (known_all table (seen_at later)) kept_at arenas;
               comes = (came.0, same_seat rs (known table (seen_at later)) (known_all table (seen_at passes)) (known_all table (seen_at later)) kept_at c (seat_of c (after (moment_at open_call desk) Starved)) came.1);
               wanted = subst (λ n. IsWantedAt c call.stage.arena n Lacked) (sym goes) (subst (λ w. IsWanted c call.stage.arena w Lacked) (sym wants) marked);
+              met = tt;
               box = λ last box_no its. box_lacked (moment_at open_call desk) point last box_no goes;
               turns = λ i. ap (turns_in table c i) (as_was i) ∙ sym (append-nil _);
             }

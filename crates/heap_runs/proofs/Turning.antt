@@ -1,5 +1,6 @@
 -- A turn that a call wants, in an arena that others changed since the client's last turn there.
-use Rattle.heap_runs.proofs.Words.{◌≡◌, ◌≢◌, ℕ, ◌<◌, ◌≤◌, false, List, Option, Some, length, sym, refl, ap, ◌∙◌, subst, arith, slice_set, Record, no_record, record_at, record_after, room_in, reply_in, mine, mine_in, room_of, entry_of, Sound, length-set, get_or-set_same, get_or-set_other, Op, Reply, Replied, Point, Go, AskFacts, DeskFacts, CallFacts, moment_of, Moment, after, want, WantTurn, reply_to, seat_of, at_or_else, replayed_sound, Seat, with_found, Snapshot, ChunkTable, Facts, Logs, Owned, after_deed, after_entry, owned_by, Deed, Told, AreArenas, CanTake, Comes, Sits, after_found, found_is, own-sits, turns-sit, known, state_of}
+use Rattle.heap_runs.proofs.Words.{◌≡◌, ◌≢◌, ℕ, ◌<◌, ◌≤◌, false, List, Option, Some, length, sym, refl, ap, ◌∙◌, subst, arith, slice_set, Record, no_record, record_at, record_after, room_in, reply_in, mine, mine_in, room_of, entry_of, Sound, length-set, get_or-set_same, get_or-set_other, Op, Reply, Replied, Point, Go, AskFacts, DeskFacts, CallFacts, moment_of, Moment, after, want, WantTurn, reply_to, seat_of, at_or_else, replayed_sound, Seat, with_found, Snapshot, ChunkTable, Facts, Logs, Owned, after_deed, after_entry, owned_by, Deed, Told, AreArenas, CanTake, Comes, Sits, after_found, found_is, own-sits, turns-sit, known, state_of, Knows, stands}
+use Rattle.heap_runs.specs.Meets.{TurnMeets}
 use Rattle.heap_runs.proofs.Knowing.{Known, known_all, known_at, not_together, same_arenas, same_seat}
 
 module _ (table : ChunkTable) (c : ℕ) (logs logs' : Known) (desk : DeskFacts) (call : CallFacts) (point : Point) (op : Op) (asked : Option AskFacts)
@@ -106,3 +107,14 @@ module _ (table : ChunkTable) (c : ℕ) (logs logs' : Known) (desk : DeskFacts) 
 
   pub turn_leaves : (r : Told) → r ≡ (after_entry met e).1 → AreArenas false new × (r.box_no < 32) × Comes false new c (after (moment_of call desk) (Replied r.reply))
   turn_leaves r is = (turned_arenas, turned_box r is, turned_comes r is)
+
+  -- what the turn met
+  pub turn_met : (r : Told) → r ≡ (after_entry met e).1 → TurnMeets c a (Go point) e.value r
+  turn_met r is = record {
+    there = there;
+    space = met.arena.space;
+    sound = replayed_sound met.arena.index met.arena.kept met.arena.space logged.replayed;
+    knows = subst (λ m. Knows m point) (sym (ap (λ (w : Owned). w.has) own ∙ ap (λ (x : Record). mine c x.space) (sym (known_at table logs a there)))) sits.waits.knows;
+    stands = ap (λ (d : Deed). stands met.arena.space (entry_of c d.op)) logged.is ∙ logged.stands;
+    reply = ap (λ (t : Told). t.reply) is ∙ ap (λ (d : Deed). reply_to met.arena.space (entry_of d.client e.value.op)) logged.is;
+  }

@@ -68,7 +68,7 @@ pub use Rattle.sits.specs.Seats.{Seat, open_call, seat_of}
 pub use Rattle.sits.specs.Sitting.{Comes, IsAtRest, IsSeated, SeatSound, Sits, SitsAt}
 pub use Rattle.space_model.specs.Own.{Mine, mine}
 pub use Rattle.space_model.specs.Sound.{Sound}
-pub use Rattle.space_model.specs.Step.{op_stands, reply_to}
+pub use Rattle.space_model.specs.Step.{op_stands, reply_to, stands}
 pub use Rattle.space_model.specs.declared.asks.Ask.{Ask}
 pub use Rattle.space_model.specs.declared.entries.Op.{Op}
 pub use Rattle.space_model.specs.declared.entries.Op.TheVariants.{GrowDone, OfferDone}

@@ -51,5 +51,5 @@ one_more shelf heap old mid new requests request answer dids worked may gains is
 
 pub worked_more : {H : Type 0} (shelf : SharedShelf H) (heap : SharedHeap) (old mid new : Ctx) (requests : List Request) (request : Request) (answer : Answered) → Worked shelf heap old requests mid → MayCall (shelf_id shelf) heap new
     → Called shelf heap mid new request answer ⊎ Refrained shelf heap mid new answer → Worked shelf heap old (requests ++ request ∷ []) new
-worked_more shelf heap old mid new requests request answer worked may (inl called) = one_more shelf heap old mid new requests request answer called.dids worked may called.gains (inl called.call)
+worked_more shelf heap old mid new requests request answer worked may (inl called) = one_more shelf heap old mid new requests request answer called.dids worked may called.gains (inl (called.call, called.met))
 worked_more shelf heap old mid new requests request answer worked may (inr none) = one_more shelf heap old mid new requests request answer [] worked may none.gains (inr (refl, none.told, none.desk))

@@ -12,7 +12,7 @@ use Rattle.hook_api.specs.Orders.{IsByPlanOf}
 use Rattle.hook_api.specs.Shared.{plan_of_kind}
 use Rattle.hook_api.specs.declared.shared.SharedShelf.{SharedShelf}
 use Rattle.call_plan.specs.Calls.{CallFacts, HasRoomToHold, moment_at}
-use Rattle.call_plan.specs.Runs.{Moment, after}
+use Rattle.call_plan.specs.Runs.{Moment, after, begin}
 use Rattle.call_plan.specs.Stages.{Ends}
 use Rattle.call_plan.specs.declared.needs.Answered.{Answered}
 use Rattle.call_plan.specs.declared.needs.Answered.TheVariants.{NoMemory}
@@ -22,6 +22,7 @@ use Rattle.deeds.specs.declared.deeds.Deed.{Deed}
 use Rattle.deeds.specs.declared.deeds.Told.{Told}
 use Rattle.sits.specs.Arenas.{AreArenas}
 use Rattle.sits.specs.Sitting.{Comes, IsAtRest}
+use Rattle.heap_runs.specs.Meets.{AllMeet, Meets}
 use Rattle.heap_runs.specs.Ways.{AreWays, known, seen_at, turns_in, took_in}
 use Rattle.heap_runs.specs.declared.heaps.Ctx.{Ctx}
 use Rattle.heap_runs.specs.declared.heaps.SharedHeap.{SharedHeap}
@@ -77,35 +78,40 @@ pub record Gains {H : Type 0} (shelf : SharedShelf H) (heap : SharedHeap) (old n
   pub refused : new.seat.refused ≡ counted_by old.seat.refused (asks_of dids)
   pub planned : All (IsAsPlanned shelf) (asks_of dids)
 
--- What one step of a call did, where the last turn was this one.
+-- What one step of a call did, where the last turn was this one, and what it met.
 pub record Steps {H : Type 0} (shelf : SharedShelf H) (heap : SharedHeap) (old new : Ctx) (at : Moment) (last : Option (ℕ × ℕ)) (at' : Moment) (box_no : ℕ) : Type 0 where
   pub did : Did
   pub follows : Follows new.client at last did
+  pub meets : Meets new.client at.stage.next did
   pub goes : at' ≡ after at (item_of did)
   pub box : HasBox at'.stage (told_by last did) box_no
   pub gains : Gains shelf heap old new (did ∷ [])
 
--- What a call has done so far.
+-- What a call has done so far, and what it met.
 pub record Runs {H : Type 0} (shelf : SharedShelf H) (heap : SharedHeap) (old new : Ctx) (at at' : Moment) (box_no : ℕ) : Type 0 where
   pub dids : List Did
   pub led : Led new.client at None dids at'
+  pub met : AllMeet new.client at dids
   pub box : HasBox at'.stage (told_last None dids) box_no
   pub gains : Gains shelf heap old new dids
 
--- An open call ran to its end from this moment, with this answer.
+-- An open call ran to its end from this moment, with this answer, and met what it had to.
 pub record Ran {H : Type 0} (shelf : SharedShelf H) (heap : SharedHeap) (old new : Ctx) (at : Moment) (answer : Answered) : Type 0 where
   pub dids : List Did
   pub last : Moment
   pub led : Led new.client at None dids last
+  pub met : AllMeet new.client at dids
   pub ends : last.stage.next ≡ Ends answer
   pub leaves : last.desk ≡ new.desk.facts
   pub gains : Gains shelf heap old new dids
 
 -- What a whole call did: the passes of its context gained just the turns of one run from what the client had to what it has, with
--- its answer; each of its asks is of the box that the last turn told.
+-- its answer; each of its asks is of the box that the last turn told. Each turn met a sound space, in which the client owned what the call
+-- has to know there, and each ask had an answer of its kind.
 pub record Called {H : Type 0} (shelf : SharedShelf H) (heap : SharedHeap) (old new : Ctx) (request : Request) (answer : Answered) : Type 0 where
   pub dids : List Did
   pub call : IsCall new.client old.desk.facts request dids answer new.desk.facts
+  pub met : AllMeet new.client (begin request old.desk.facts) dids
   pub gains : Gains shelf heap old new dids
 
 -- Memory was wanting before anything was done: the client has what it had.

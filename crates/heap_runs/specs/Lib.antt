@@ -1,5 +1,6 @@
 pub mod Histories
 pub mod Ways
+pub mod Meets
 pub mod Heaps
 pub mod Deals
 pub mod Columns

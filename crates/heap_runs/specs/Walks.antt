@@ -6,12 +6,14 @@ use Rattle.call_plan.specs.Clients.{DeskFacts}
 use Rattle.call_plan.specs.declared.needs.Answered.{Answered}
 use Rattle.call_plan.specs.declared.needs.Answered.TheVariants.{NoMemory}
 use Rattle.call_plan.specs.Laws.{IsInRange}
+use Rattle.call_plan.specs.Runs.{begin}
 use Rattle.call_plan.specs.declared.needs.Request.{Request}
 use Rattle.heap_runs.specs.declared.heaps.Ctx.{Ctx}
 use Rattle.heap_runs.specs.declared.heaps.SharedHeap.{SharedHeap}
 use Rattle.heap_runs.specs.declared.phases.Job.{Job}
 use Rattle.deeds.specs.Dids.{Did, IsCall}
 use Rattle.heap_runs.specs.Heaps.{Gains, MayCall, shelf_id}
+use Rattle.heap_runs.specs.Meets.{AllMeet}
 
 -- A call that was carried out: what was asked for, what it did, and its answer.
 pub record Done : Type 0 where
@@ -19,10 +21,10 @@ pub record Done : Type 0 where
   pub dids : List Did
   pub answer : Answered
 
--- the call is one from what the client had to what it has then; or memory was wanting before it did anything
+-- the call is one from what the client had to what it has then, and met what it had to; or memory was wanting before it did anything
 abbrev pub IsDone : ℕ → DeskFacts → Done → DeskFacts → Type 0
 IsDone c had done has =
-    IsCall c had done.request done.dids done.answer has ⊎ ((done.dids ≡ []) × (done.answer ≡ NoMemory) × (has ≡ had))
+    (IsCall c had done.request done.dids done.answer has × AllMeet c (begin done.request had) done.dids) ⊎ ((done.dids ≡ []) × (done.answer ≡ NoMemory) × (has ≡ had))
 
 -- the calls follow one another, from what the client had to what it has then
 abbrev pub Walk : ℕ → DeskFacts → List Done → DeskFacts → Type 0

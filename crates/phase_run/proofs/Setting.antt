@@ -11,6 +11,7 @@ use Rattle.heap_runs.proofs.Passing.{get_other, get_same, same_element}
 use Rattle.call_plan.specs.declared.needs.Answered.{Answered}
 use Rattle.call_plan.specs.declared.needs.Answered.TheVariants.{NoMemory}
 use Rattle.call_plan.specs.declared.needs.Request.{Request}
+use Rattle.call_plan.specs.Runs.{begin}
 use Rattle.deeds.specs.Dids.{IsCall, asks_of}
 use Rattle.hook_api.specs.Shared.{orders_of, same_locks, with_plan_set}
 use Rattle.hook_api.specs.declared.locks.Locks.{Locks}
@@ -21,6 +22,7 @@ use Rattle.trace_phase.specs.declared.parts.Setting.TheVariants as setting
 use Rattle.trace_phase.specs.declared.parts.SettingCall.{SettingCall}
 use Rattle.heap_runs.specs.Deals.{no_desk}
 use Rattle.heap_runs.specs.Heaps.{Called, Gains, MayCall, Refrained, shelf_id}
+use Rattle.heap_runs.specs.Meets.{AllMeet}
 use Rattle.heap_runs.specs.Walks.{Done, dids_of}
 use Rattle.heap_runs.specs.declared.heaps.Ctx.{Ctx}
 use Rattle.heap_runs.specs.declared.heaps.SharedHeap.{SharedHeap}
@@ -91,7 +93,7 @@ module _ {H : Type 0} (shelf : SharedShelf H) (heap : SharedHeap) where
     record { request = request; dids = called.dids; answer = answer },
     refl,
     refl,
-    (subst (λ k. IsCall k (desk_of old) request called.dids answer (desk_of new)) (called.gains.client ∙ client) called.call, fine),
+    (subst (λ k. IsCall k (desk_of old) request called.dids answer (desk_of new)) (called.gains.client ∙ client) called.call, fine, subst (λ k. AllMeet k (begin request (desk_of old)) called.dids) (called.gains.client ∙ client) called.met),
     called.gains,
   )
   made_by c old new request answer client (inr none) fine = absurd (fine none.told)

@@ -12,8 +12,10 @@ use Rattle.call_plan.specs.declared.needs.Answered.{Answered}
 use Rattle.hook_api.specs.declared.shared.SharedShelf.{SharedShelf}
 use Rattle.heap_runs.proofs.Leading.{gains_more, gains_none}
 use Rattle.heap_runs.specs.Heaps.{CallDid, Gains, MayCall, shelf_id}
+use Rattle.heap_runs.specs.Meets.{AllMeet}
 use Rattle.heap_runs.specs.Walks.{Done, IsDone, Walk, dids_of, requests_of}
 use Rattle.heap_runs.specs.declared.heaps.SharedHeap.{SharedHeap}
+use Rattle.call_plan.specs.Runs.{begin}
 use Rattle.deeds.specs.Dids.{IsCall}
 use Rattle.call_plan.specs.Clients.{DeskFacts}
 use Rattle.trace_phase.specs.Expanded.{rounds_over}
@@ -93,7 +95,7 @@ module _ {H : Type 0} (shelf : SharedShelf H) (heap : SharedHeap) (now : ℕ) wh
   carries_by call old new answer facts (inl called) fine same names tally may = record {
     done = record { request = request_of now old.names call; dids = called.dids; answer = answer };
     asked = refl;
-    made = (subst (λ c. IsCall c old.ctx.desk.facts (request_of now old.names call) called.dids answer new.ctx.desk.facts) called.gains.client called.call, fine);
+    made = (subst (λ c. IsCall c old.ctx.desk.facts (request_of now old.names call) called.dids answer new.ctx.desk.facts) called.gains.client called.call, fine, subst (λ c. AllMeet c (begin (request_of now old.names call) old.ctx.desk.facts) called.dids) called.gains.client called.met);
     names = names ∙ ap (names_after old.names call answer) same;
     tally = tally;
     gains = called.gains;
@@ -104,7 +106,7 @@ module _ {H : Type 0} (shelf : SharedShelf H) (heap : SharedHeap) (now : ℕ) wh
   -- ---- rounds
 
   made_well : (c : ℕ) (had : DeskFacts) (done : Done) (has : DeskFacts) → IsDone c had done has → is_ok done.answer ≡ true → IsMade c had done has
-  made_well c had done has (inl call) ok = (call, λ lacks. absurd (let bad : is_ok NoMemory ≡ true = subst (λ a. is_ok a ≡ true) lacks ok in cc))
+  made_well c had done has (inl call) ok = (call.0, λ lacks. absurd (let bad : is_ok NoMemory ≡ true = subst (λ a. is_ok a ≡ true) lacks ok in cc), call.1)
   made_well c had done has (inr nothing) ok = absurd (let bad : is_ok NoMemory ≡ true = subst (λ a. is_ok a ≡ true) nothing.1 ok in cc)
 
   makes_decays : (c : ℕ) (names : List (List ℕ × Place)) (had : DeskFacts) (arenas : List ℕ) (dones : List Done) (has : DeskFacts) → requests_of dones ≡ one_round now arenas → Walk c had dones has → All WentWell dones

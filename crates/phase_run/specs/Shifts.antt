@@ -4,8 +4,10 @@ use Rattle.atomic_table.specs.Seated.{TableId}
 use Rattle.call_plan.specs.declared.needs.Answered.{Answered}
 use Rattle.call_plan.specs.declared.needs.Answered.TheVariants.{NoMemory}
 use Rattle.call_plan.specs.declared.needs.Request.{Request}
+use Rattle.call_plan.specs.Runs.{begin}
 use Rattle.deeds.specs.Dids.{IsCall}
 use Rattle.heap_runs.specs.Heaps.{Gains, MayCall, shelf_id}
+use Rattle.heap_runs.specs.Meets.{AllMeet}
 use Rattle.heap_runs.specs.Walks.{Done, dids_of}
 use Rattle.heap_runs.specs.declared.heaps.SharedHeap.{SharedHeap}
 use Rattle.hook_api.specs.declared.shared.SharedShelf.{SharedShelf}
@@ -28,9 +30,10 @@ asked_for done = done.request
 abbrev pub answer_to : Done → Answered
 answer_to done = done.answer
 
--- a call of a client was carried out whole, from what it had to what it has, and memory wasn't wanting
+-- a call of a client was carried out whole, from what it had to what it has, and memory wasn't wanting; each turn met a sound space in which
+-- the client owned what the call has to know there, and each ask had an answer of its kind
 abbrev pub IsMade : ℕ → DeskFacts → Done → DeskFacts → Type 0
-IsMade c had done has = IsCall c had done.request done.dids done.answer has × (done.answer ≢ NoMemory)
+IsMade c had done has = IsCall c had done.request done.dids done.answer has × (done.answer ≢ NoMemory) × AllMeet c (begin done.request had) done.dids
 
 -- the calls of a client in a phase at a moment were carried out, from the names that were known and what the client had to those
 -- that are known and what it has

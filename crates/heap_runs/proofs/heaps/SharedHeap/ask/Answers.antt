@@ -35,6 +35,7 @@ returns-clause-steps g c =
         wanted = (left g at).wanted;
         box = asked_box (shelf_id c.args.shelf.now) c.args.self.now c.args.ctx.now c.requires.ctx c.args.call.now c.requires.stands c.args.call.now.stage.arena c.args.ask c.requires.needs asked told.of_ask told.step.2.answers last box_no told.of_box has;
       };
+      meets = (left g at).met;
       goes = c.next.ensures.moment;
       box = subst (λ (m : Moment). HasBox m.stage last box_no) (sym c.next.ensures.moment) ((left g at).box last box_no tt);
       gains = record {

@@ -1,4 +1,5 @@
 use Rattle.heap_runs.proofs.Words.{◌∙◌, inl, [], None, false, refl, sym, subst, append-nil, arc_value, All-nil, IsAsPlanned, IsAtRest, Led, Moment, begin, known, seen_at}
+use Rattle.heap_runs.specs.Meets.{AllMeet}
 use Rattle.heap_runs.proofs.Calling.{began, stands_there, stays_at}
 use Rattle.heap_runs.proofs.Needing.{ended_is}
 use Rattle.heap_runs.proofs.heaps.SharedHeap.call.Goals as goal
@@ -25,6 +26,7 @@ returns-in-Ok-Some-clause-called g c =
     inl (record {
       dids = [];
       call = record { last = first; led = refl; ends = ended_is first.stage.next c.in-Ok-Some.answer (sym c.in-Ok-Some.ensures.answer ∙ c.in-Ok-Some.field-0-is); leaves = sym c.in-Ok-Some.ensures.desk };
+      met = tt;
       gains = record { client = refl; turns = λ i few. sym (append-nil _); asks = refl; refused = refl; planned = All-nil (IsAsPlanned c.args.shelf.now) };
     })
 
@@ -69,5 +71,6 @@ returns-clause-called g c =
         ends = ran.ends;
         leaves = ran.leaves;
       };
+      met = subst (λ (m : Moment). AllMeet c.run.new.ctx.client m ran.dids) is.moment ran.met;
       gains = record { client = ran.gains.client; turns = ran.gains.turns; asks = ran.gains.asks; refused = ran.gains.refused; planned = ran.gains.planned };
     })

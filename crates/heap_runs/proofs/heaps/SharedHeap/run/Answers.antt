@@ -13,6 +13,7 @@ loop-init g c = record {
   runs = record {
     dids = [];
     led = refl;
+    met = tt;
     box = λ asks. absurd (let none = c.requires.turns in cc);
     gains = gains_none c.args.shelf.now c.args.self.now c.args.ctx.now;
   };
@@ -42,6 +43,7 @@ returns-in-Some-answer-clause-ran g c =
       dids = runs.dids;
       last = moment_at c.loop.call desk;
       led = runs.led;
+      met = runs.met;
       ends = ended_is (named_call desk c.loop.call).stage.next c.in-Some-answer.answer.now (named_ends desk c.loop.call ∙ c.in-Some-answer.ensures.some);
       leaves = refl;
       gains = runs.gains;

@@ -22,6 +22,7 @@ returns-clause-steps g c =
     λ last. record {
       did = Lacked;
       follows = record { wanted = left.wanted; box = tt };
+      meets = left.met;
       goes = c.next.ensures.moment;
       box = subst (λ (m : Moment). HasBox m.stage last c.args.box_no) (sym c.next.ensures.moment) (left.box last c.args.box_no tt);
       gains = record { client = refl; turns = λ i few. left.turns i; asks = refl; refused = refl; planned = All-nil (IsAsPlanned c.args.shelf.now) };

@@ -61,6 +61,7 @@ returns-in-Ok-clause-steps g c =
     λ last. record {
       did = Took c.args.turn.arena c.in-Ok.ensures.turned.entry.value told;
       follows = record { wanted = left.wanted; box = tt };
+      meets = left.met;
       goes = c.next.ensures.moment;
       box = subst (λ (m : Moment). HasBox m.stage (Some (c.args.turn.arena, told.box_no)) told.box_no) (sym c.next.ensures.moment) (left.box last told.box_no refl);
       gains = record { client = refl; turns = λ i few. left.turns i; asks = refl; refused = refl; planned = All-nil (IsAsPlanned c.args.shelf.now) };
@@ -86,6 +87,7 @@ returns-in-Err-clause-steps g c =
     λ last. record {
       did = Lacked;
       follows = record { wanted = left.wanted; box = tt };
+      meets = left.met;
       goes = c.next-in-Err.ensures.moment;
       box = subst (λ (m : Moment). HasBox m.stage last c.args.box_no) (sym c.next-in-Err.ensures.moment) (left.box last c.args.box_no tt);
       gains = record { client = refl; turns = λ i few. left.turns i; asks = refl; refused = refl; planned = All-nil (IsAsPlanned c.args.shelf.now) };
