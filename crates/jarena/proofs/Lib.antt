@@ -5,3 +5,7 @@ mod Threading
 mod Accepting
 mod Completing
 mod Verdicts
+mod Walked
+mod TurnsMet
+mod Ended
+mod Serving

@@ -1,4 +1,5 @@
 pub mod Words
 pub mod Facts
 pub mod Checks
+pub mod Served
 pub mod Runs

@@ -13,7 +13,8 @@ use Rattle.replay_run.specs.Soaks.{IsSoakStatus, SoakOf}
 use Rattle.replay_run.specs.Stops.{IsReplayStatus, IsWholeStatus}
 use Rattle.trace_soak.specs.Soak.{lines}
 use Rattle.journal_check.specs.Printed.{IsAcceptedText}
-use Rattle.phase_run.specs.Threads.{Runs, held_by, left_by}
+use Rattle.phase_run.specs.Threads.{HasRun, Runs, held_by, left_by}
+use Rattle.jarena.specs.Served.{AllServed}
 use Rattle.jarena.specs.Checks.{IsChecked}
 pub use Rattle.jarena.specs.Facts.{SinkFacts, SourceFacts, sink_facts, source_facts}
 
@@ -87,10 +88,12 @@ abbrev pub WritesAccepted : SinkFacts → SinkFacts → Type 0
 WritesAccepted old new = (text : List ℕ) × Appends old.held new.held text × IsAcceptedText text
 
 -- `threads`, or `threads --journal` where the journals are printed behind the summary: all lines of the source are read, and then carried
--- out by the clients of the trace, each phase's beside each other; or the first bad line is told. Journals that are printed whole are
--- accepted.
+-- out by the clients of the trace, each phase's beside each other; or the first bad line is told. Where they were carried out,
+-- each valid call was served. Journals that are printed whole are accepted.
 pub record RunsThreads (with_journals : Bool) (run : RunFacts) (shelf : Shelf) (source source' : SourceFacts) (sink sink' : SinkFacts) : Type 0 where
   pub runs : Runs with_journals source.left source'.ended source.faults source'.faults shelf run.shelf (left_by run.status run.journals run.chunks)
       (held_by sink.held sink.faults sink.waits) (held_by sink'.held sink'.faults sink'.waits)
+  pub served : (ran : HasRun with_journals source.left source'.ended shelf run.shelf (left_by run.status run.journals run.chunks)
+      (held_by sink.held sink.faults sink.waits) (held_by sink'.held sink'.faults sink'.waits)) → AllServed run.journals ran.carried.carried.dones
   pub unheard : run.heard ≡ []
   pub accepted : IsTrue with_journals → run.status ≡ 0 → WritesAccepted sink sink'

@@ -3,6 +3,7 @@ use Rattle.std.specs.Prelude.{IsTrue}
 use Rattle.jarena.proofs.Accepting.{threads_accepted}
 use Rattle.jarena.proofs.Completing.{replay_completes, soak_completes}
 use Rattle.jarena.proofs.Lists.{check_in_list, check_no_replay, check_no_soak, replay_form, replay_in_list, replay_no_soak, soak_calls, soak_in_list, soak_start, threads_form, threads_in_list, threads_no_check, threads_no_replay, threads_no_soak}
+use Rattle.jarena.proofs.Serving.{carried_served}
 use Rattle.jarena.proofs.Threading.{threads_not_usage}
 use Rattle.jarena.proofs.runs.run.Goals as goal
 
@@ -102,6 +103,7 @@ pub returns-in-Threads-clause-threads : goal.returns-in-Threads-clause-threads
 returns-in-Threads-clause-threads g c = λ with_journals is.
     let out = c.of_threads.ensures in record {
       runs = rw (threads_form _ with_journals c.in-Threads.with_journals is c.in-Threads.ensures, out.status, out.shelf, out.journals, out.chunks) c.threads-threaded.ensures.runs;
+      served = λ ran. carried_served ran.carried.orders ran.phases.parts ran.carried.last _ ran.carried.book ran.carried.carried;
       unheard = out.heard;
       accepted = λ journals zero. threads_accepted c.in-Threads.with_journals _ _ _ _ _ _ _ _ _ c.threads-threaded.ensures.runs
           (subst IsTrue (threads_form _ with_journals c.in-Threads.with_journals is c.in-Threads.ensures) journals) (sym out.status ∙ zero);
