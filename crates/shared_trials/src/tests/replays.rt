@@ -28,10 +28,9 @@ fn opening(alloc: Global, index: u32) -> Space
     ensures good { Good [] result }
 {
     if index == 0 {
-        Space::first(alloc)
-    } else {
-        Space::absent(alloc)
+        return Space::first(alloc);
     }
+    Space::absent(alloc)
 }
 
 /// The entries of a journal.
