@@ -10,7 +10,7 @@ pub use Rattle.std.proofs.Common.{◌≡◌, ◌+◌, ◌-◌, ◌<◌, suc, zer
 pub use Rattle.std.proofs.lemmas.Bool.{and_parts, eqb-true, eq-eqb, cond_both, not-true, cases_Bool, cond-true, cases_order, lt-ltb, cases_lt, cond-false, iff_false}
 pub use Rattle.std.proofs.lemmas.Bool.Decides.{nat_tests}
 pub use Rattle.std.proofs.lemmas.Cmp.{ranked, tied_itself}
-pub use Rattle.std.proofs.lemmas.List.{take_all, drop_more, drop_all, get_or-take, length-drop, length-take-le, map-set, take-append-drop, take_at, drop_at, get_or_at, append-nil, take-take, drop-append-le, drop-take, drop-drop, length_push, get_or-append_right, take_more, get_or-set_other, get_or-set_same, length-set, set-get_or, set_split, set-set, get_or_read, get_or-drop, get_or_default, take_rest, nil_from_length}
+pub use Rattle.std.proofs.lemmas.List.{take_all, drop_more, drop_all, get_or-take, length-drop, length-take-le, map-set, take-append-drop, take_at, drop_at, get_or_at, append-nil, take-take, drop-append-le, drop-take, drop-drop, length_push, get_or-append_right, take_more, get_or-set_other, get_or-set_same, length-set, length-map, set-get_or, set_split, set-set, get_or_read, get_or-drop, get_or_default, take_rest, nil_from_length}
 pub use Rattle.std.proofs.lemmas.List.Concat.{flat_map-append}
 pub use Rattle.std.proofs.lemmas.List.Edits.{length-insert, length-remove, get_or-remove_below}
 pub use Rattle.std.proofs.lemmas.List.Elements.{recursion_from_All, All-contains_itself, Contains-append_left, Contains-append_right, Contains-append_cases, filter-append}

@@ -61,7 +61,7 @@ impl OrderedSet {
             return Ok(());
         }
         let keys = self.len.checked_add(more).ok_or(NoMemory)?;
-        // Each block has at least 64 keys, unless it is the only one.
+        // Each block but the last has at least 64 keys.
         self.index.reserve((keys / 64 + 1) as usize)?;
         self.spare = more;
         Ok(())
