@@ -1,10 +1,10 @@
 -- A slab comes, or goes.
-use Rattle.bin_book.proofs.Words.{is_eq, tied_itself, Some, None, ◌≡◌, ◌≢◌, ℕ, ◌+◌, ◌-◌, ◌*◌, ◌^◌, ◌<◌, ◌≤◌, Bool, false, eqb, ltb, List, [], ◌∷◌, ◌++◌, length, length-set, map, filter, get_or, set, count_by, ◌⊎◌, inl, inr, refl, sym, ap, ◌∙◌, subst, arith, Contains, vec_len, vec_capacity, zero, slice_get, list_any, range_with_len, cases_eq, cases_lt, eq-eqb, get_or-set_at, nat_tests, get_or-set_other, get_or-set_same, length-map, map-append, Contains-append_left, Contains-push, Contains-push_cases, length-range_with_len, count_by-le-length, sum_by-append, sum_by-cons, pages_at, regions_at, pages_bounds, slab_filled, Region, landing, regions_from, AreFreeFrom, Bits, Key, IsAscending, is_above, is_below, key_cmp, with_key, without_key, length_with, length_without, key_tie, key_total, filter_from, with_from, with_keeps, with_self, without_from, without_keeps, absent, parts, Chart, Table, addr_of, meets_slab, place, slab_with_out, with_slab, HasPage, holder_at, AreCounts, AreFreeSlots, IsBinned, IsCharted, AreSlabKeys, IsSlabIn, IsSlabTable, bin_key, bin_of, bits_at, left_of, ones, regions_in, out_of_slabs, slab_at, slab_of, slabs_in, slabs_without, count_none, any_false, bit, count_map, count_same, count_some, filter_map_is, filter_same, map_has, map_same, range_from, get_or_from_slice_get, slice_get_within, append-nil, filter_all_of, not, out_of, zeros, IsRising}
-use Rattle.bin_book.proofs.Places.{filter_split, length_ones, bits_here, bits_there, same_slab}
+use Rattle.bin_book.proofs.Words.{Some, None, ◌≡◌, ◌≢◌, ℕ, ◌+◌, ◌-◌, ◌*◌, ◌^◌, ◌<◌, ◌≤◌, Bool, true, false, eqb, ltb, List, [], ◌∷◌, ◌++◌, length, length-set, map, filter, get_or, set, count_by, ◌⊎◌, inl, inr, refl, sym, ap, ◌∙◌, subst, arith, Contains, vec_len, vec_capacity, zero, slice_get, list_any, range_with_len, cases_eq, cases_lt, eq-eqb, get_or-set_at, nat_tests, get_or-set_other, get_or-set_same, length-map, map-append, Contains-append_left, Contains-push, Contains-push_cases, length-range_with_len, count_by-le-length, sum_by-append, sum_by-cons, pages_at, regions_at, pages_bounds, slab_filled, Region, landing, regions_from, AreFreeFrom, Bits, Key, IsAscending, is_above, is_below, key_cmp, with_key, without_key, length_with, length_without, key_tie, key_total, filter_from, with_from, with_keeps, with_self, without_from, without_keeps, absent, parts, Chart, Table, addr_of, meets_slab, place, slab_with_out, with_slab, HasPage, holder_at, AreCounts, AreFreeSlots, IsBinned, IsCharted, AreSlabKeys, IsSlabIn, IsSlabTable, IsMoved, bin_key, bin_of, bits_at, is_open, open_in, ones, regions_in, out_of_slabs, slab_at, slab_of, slabs_in, slabs_without, count_none, any_false, bit, count_map, count_same, count_some, filter_map_is, filter_same, map_has, map_same, range_from, get_or_from_slice_get, slice_get_within, append-nil, filter_all_of, not, out_of, zeros, IsRising}
+use Rattle.bin_book.proofs.Places.{filter_split, length_ones, bits_here, bits_there, count_without, key_cases, same_slab}
 use Rattle.bin_book.proofs.Taking.{small_numbers}
 use Rattle.bin_book.proofs.Regions.{landing_between, regions_agree, regions_both, regions_first, regions_rise}
 use Rattle.std.proofs.Common.{rules}
-use Rattle.list_facts.proofs.Members.{count_less_one, filter_none_of, kept_length}
+use Rattle.list_facts.proofs.Members.{filter_none_of}
 use Rattle.std.specs.FinMap as map_of
 
 -- ---- a new slab
@@ -31,9 +31,6 @@ new_in bits first out small some most long run inside =
 
 pub count_with : (p : Key → Bool) (ks : List Key) (key : Key) → IsAscending ks → (Contains ks key → ⊥) → count_by p (with_key ks key) ≡ count_by p ks + bit (p key)
 count_with p ks key s none = omega (arith, ap (count_by p) (parts key_cmp key_total key ks s ∙ ap (λ ls. filter (is_below key) ks ++ ls) (absent key_cmp key_total key key_tie ks none)), sum_by-append (λ k. bit (p k)) (filter (is_below key) ks), sum_by-cons (λ k. bit (p k)) key (filter (is_above key) ks))
-
-pub count_without : (p : Key → Bool) (ks : List Key) (key : Key) → IsAscending ks → Contains ks key → count_by p (without_key ks key) + bit (p key) ≡ count_by p ks
-count_without p ks key s m = count_less_one (λ k. is_eq (key_cmp k key)) p ks key m (ap is_eq (tied_itself key_total key)) (omega (arith, kept_length (λ k. is_eq (key_cmp k key)) ks, length_without ks key s m))
 
 -- a key by the first pages, where these differ
 below_first : (key k : Key) → k.major ≢ key.major → is_below key k ≡ ltb k.major key.major
@@ -78,10 +75,15 @@ module _ (t : Table) (i : IsSlabTable t) (class first number : ℕ) (bits : Bits
   pub new_key : Contains t.firsts.keys slab → ⊥
   new_key m = other_number slab m refl
 
-  pub new_bin : (full : Bool) → Contains t.bins.keys (bin_key class full slab) → ⊥
-  new_bin full m =
+  pub new_bin : Contains t.bins.keys (bin_key class slab) → ⊥
+  new_bin m =
       let p = i.binned.from _ m in
-      other_number p.0 p.1 (ap (λ (z : Key). z.minor) (same_slab _ _ _ _ p.0 slab (small_numbers t i p.0 p.1) low_number p.2))
+      other_number p.0 p.1 (ap (λ (z : Key). z.minor) (same_slab _ _ p.0 slab (small_numbers t i p.0 p.1) low_number p.3))
+
+  -- there is room for its key
+  pub new_room : 0 < vec_len t.free → 1 ≤ t.bins.spare
+  unfolding open_in
+  new_room some = omega (arith, i.bins_room, i.places, count_by-le-length (λ (k : Key). is_open (bits_at t.slots.items k.minor)) t.firsts.keys)
 
   -- no page is in another slab
   beside : (k : Key) → Contains t.firsts.keys k → (first + pages_at class ≤ k.major) ⊎ (k.major + pages_at (bits_at t.slots.items k.minor).class ≤ first)
@@ -113,16 +115,29 @@ module _ (t : Table) (i : IsSlabTable t) (class first number : ℕ) (bits : Bits
     numbers = λ k l m n e. grind (arith, with_from t.firsts.keys slab k m, with_from t.firsts.keys slab l n, other_number k, other_number l, i.kept.numbers k l, e);
   }
 
-  binned_added : (bins : List Key) → bins ≡ with_key t.bins.keys (bin_key bits.class (eqb (left_of bits) 0) slab) → IsBinned slots keys bins
-  binned_added bins e =
-      let mine = bin_key bits.class (eqb (left_of bits) 0) slab in
+  binned_added : (bins : List Key) → IsMoved t.bins.keys bins (bin_key bits.class slab) (is_open bits) → IsBinned slots keys bins
+  binned_added bins moved =
+      let here = bits_here t.slots.items number number bits in_items refl in
       record {
-        has = by_new (λ k b. Contains bins (bin_key b.class (eqb (left_of b) 0) k)) (subst (λ ks. Contains ks mine) (sym e) (with_self t.bins.keys mine)) (λ k m. subst (λ ks. Contains ks (bin_of t.slots.items k)) (sym e) (with_keeps t.bins.keys mine (bin_of t.slots.items k) (i.binned.has k m)));
-        from = λ b m. elim (with_from t.bins.keys mine b (subst (λ ks. Contains ks b) e m)) [
-          | inl a ↦ (slab, with_self t.firsts.keys slab, ap (λ (x : Bits). bin_key x.class (eqb (left_of x) 0) slab) (bits_here t.slots.items number number bits in_items refl) ∙ sym a)
-          | inr d ↦ let p = i.binned.from b d in (p.0, with_keeps t.firsts.keys slab p.0 p.1, ap (λ (x : Bits). bin_key x.class (eqb (left_of x) 0) p.0) (bits_there t.slots.items number p.0.minor bits (other_number p.0 p.1)) ∙ p.2)
+        has = by_new (λ k b. is_open b ≡ true → Contains bins (bin_key b.class k)) moved.there
+            (λ k m some. moved.keeps (bin_of t.slots.items k) (λ e. other_number k m (ap (λ (z : Key). z.minor) (same_slab _ _ k slab (small_numbers t i k m) low_number e))) (i.binned.has k m some));
+        from = λ b m. elim (key_cases b (bin_key bits.class slab)) [
+          | inl e ↦ (slab, with_self t.firsts.keys slab, ap is_open here ∙ moved.gone (subst (Contains bins) e m), ap (λ (x : Bits). bin_key x.class slab) here ∙ sym e)
+          | inr ne ↦
+              let p = i.binned.from b (moved.only b ne m) in
+              let same = bits_there t.slots.items number p.0.minor bits (other_number p.0 p.1) in
+              (p.0, with_keeps t.firsts.keys slab p.0 p.1, ap is_open same ∙ p.2, ap (λ (x : Bits). bin_key x.class p.0) same ∙ p.3)
         ];
       }
+
+  open_added : open_in slots keys ≡ open_in t.slots.items t.firsts.keys + bit (is_open bits)
+  unfolding open_in
+  open_added =
+      let before = λ (k : Key). is_open (bits_at t.slots.items k.minor) in
+      let after = λ (k : Key). is_open (bits_at slots k.minor) in
+      let others = count_same after before t.firsts.keys (λ k m. ap is_open (bits_there t.slots.items number k.minor bits (other_number k m))) in
+      let here = ap (λ (b : Bits). bit (is_open b)) (bits_here t.slots.items number number bits in_items refl) in
+      omega (arith, count_with after t.firsts.keys slab i.ascending new_key)
 
   pub chart_place : number < vec_len t.chart.firsts
   chart_place = omega (arith, i.free.in_slots number was_free, i.chart_room)
@@ -165,11 +180,13 @@ module _ (t : Table) (i : IsSlabTable t) (class first number : ℕ) (bits : Bits
   counts_added small c low = omega (arith, i.counts c low, class_count c, counted_more t.counts class c (omega arith))
 
   pub table_added : (small : class < 36) → (u : Table) → u.firsts.keys ≡ keys → u.firsts.spare + 1 ≡ t.firsts.spare → IsAscending u.firsts.keys → u.slots.items ≡ slots → vec_len u.slots ≡ vec_len t.slots → u.free.items ≡ rest → vec_len u.free + 1 ≡ vec_len t.free → vec_capacity u.free ≡ vec_capacity t.free
-      → u.counts ≡ set t.counts class (get_or t.counts class 0 + 1) → IsCharted slots keys u.chart → vec_len u.chart.firsts ≡ vec_len t.chart.firsts → u.bins.keys ≡ with_key t.bins.keys (bin_key bits.class (eqb (left_of bits) 0) slab) → u.bins.spare + 1 ≡ t.bins.spare → length u.holders ≡ length t.holders → IsSlabTable u
+      → u.counts ≡ set t.counts class (get_or t.counts class 0 + 1) → IsCharted slots keys u.chart → vec_len u.chart.firsts ≡ vec_len t.chart.firsts → IsMoved t.bins.keys u.bins.keys (bin_key bits.class slab) (is_open bits) → u.bins.spare + bit (is_open bits) ≡ t.bins.spare → length u.holders ≡ length t.holders → IsSlabTable u
   unfolding slabs_in
   table_added small u firsts spare ascending items len free_items free_len cap counts charted chart_len bins bins_spare codes =
       let more = ap length firsts ∙ length_with t.firsts.keys slab i.ascending new_key in
       let classes = ap length counts ∙ length-set t.counts class (get_or t.counts class 0 + 1) ∙ i.classes in
+      let same_open : open_in u.slots.items u.firsts.keys ≡ open_in slots keys = (λ x. open_in (items x) (firsts x)) in
+      let room : vec_len u.slots ≤ open_in u.slots.items u.firsts.keys + u.bins.spare = omega (arith, i.bins_room, open_added, same_open) in
       let in_slots : (k : Key) → Contains u.firsts.keys k → k.minor < vec_len u.slots = λ k m. grind (arith, with_from t.firsts.keys slab k (subst (λ ks. Contains ks k) firsts m), i.free.in_slots number was_free, i.in_slots k, len) in
       search (rules, arith, items, firsts, free_items, len, counts, codes, ascending, kept_added, binned_added u.bins.keys bins, charted, free_added, counts_added small, i.held)
 
@@ -230,17 +247,20 @@ module _ (t : Table) (i : IsSlabTable t) (slab : Key) (there : Contains t.firsts
       let old = without_from t.firsts.keys slab in
       record { slab = λ k m. i.kept.slab k (old k m).0; apart = λ k l m n. i.kept.apart k l (old k m).0 (old l n).0; numbers = λ k l m n. i.kept.numbers k l (old k m).0 (old l n).0 }
 
-  binned_less : IsBinned t.slots.items rest_keys (without_key t.bins.keys (bin_of t.slots.items slab))
-  binned_less = record {
-    has = λ k m.
+  binned_less : (bins : List Key) → IsMoved t.bins.keys bins (bin_of t.slots.items slab) false → IsBinned t.slots.items rest_keys bins
+  binned_less bins moved = record {
+    has = λ k m some.
         let p = without_from t.firsts.keys slab k m in
-        without_keeps t.bins.keys (bin_of t.slots.items slab) (bin_of t.slots.items k) (i.binned.has k p.0)
-        (λ e. p.1 (same_slab _ _ _ _ k slab (small_numbers t i k p.0) (small_numbers t i slab there) e));
+        moved.keeps (bin_of t.slots.items k) (λ e. p.1 (same_slab _ _ k slab (small_numbers t i k p.0) (small_numbers t i slab there) e)) (i.binned.has k p.0 some);
     from = λ b m.
-        let p = without_from t.bins.keys (bin_of t.slots.items slab) b m in
-        let q = i.binned.from b p.0 in
-        (q.0, without_keeps t.firsts.keys slab q.0 q.1 (λ e. p.1 (sym q.2 ∙ ap (bin_of t.slots.items) e)), q.2);
+        let ne : b ≢ bin_of t.slots.items slab = (λ e. let no : false ≡ true = moved.gone (subst (Contains bins) e m) in cc) in
+        let p = i.binned.from b (moved.only b ne m) in
+        (p.0, without_keeps t.firsts.keys slab p.0 p.1 (λ e. ne (sym p.3 ∙ ap (bin_of t.slots.items) e)), p.2, p.3);
   }
+
+  open_fewer : open_in t.slots.items rest_keys + bit (is_open (bits_at t.slots.items slab.minor)) ≡ open_in t.slots.items t.firsts.keys
+  unfolding open_in
+  open_fewer = count_without (λ k. is_open (bits_at t.slots.items k.minor)) t.firsts.keys slab i.ascending there
 
   -- no page has its number any more
   pub charted_less : (chart : Chart) → chart.firsts ≡ t.chart.firsts → ((page : ℕ) → HasPage slab.major (pages_at (bits_at t.slots.items slab.minor).class) page → map_of.get chart.pages.numbers page ≡ None)
@@ -278,7 +298,7 @@ module _ (t : Table) (i : IsSlabTable t) (slab : Key) (there : Contains t.firsts
   fewer_keys = length_without t.firsts.keys slab i.ascending there
 
   pub table_less : (u : Table) → u.firsts.keys ≡ rest_keys → u.firsts.spare ≡ t.firsts.spare + 1 → IsAscending u.firsts.keys → u.slots ≡ t.slots → u.free.items ≡ t.free.items ++ slab.minor ∷ [] → vec_len u.free ≡ vec_len t.free + 1 → vec_capacity t.free ≤ vec_capacity u.free
-      → u.counts ≡ set t.counts class_of_slab (get_or t.counts class_of_slab 0 - 1) → IsCharted t.slots.items rest_keys u.chart → vec_len u.chart.firsts ≡ vec_len t.chart.firsts → u.bins.keys ≡ without_key t.bins.keys (bin_of t.slots.items slab) → u.bins.spare ≡ t.bins.spare + 1 → length u.holders ≡ length t.holders → IsSlabTable u
+      → u.counts ≡ set t.counts class_of_slab (get_or t.counts class_of_slab 0 - 1) → IsCharted t.slots.items rest_keys u.chart → vec_len u.chart.firsts ≡ vec_len t.chart.firsts → IsMoved t.bins.keys u.bins.keys (bin_of t.slots.items slab) false → u.bins.spare ≡ t.bins.spare + bit (is_open (bits_at t.slots.items slab.minor)) → length u.holders ≡ length t.holders → IsSlabTable u
   unfolding slabs_in
   table_less u firsts spare ascending slots free_items free_len cap counts charted chart_len bins bins_spare codes =
       let items = ap (λ v. v.items) slots in
@@ -286,8 +306,10 @@ module _ (t : Table) (i : IsSlabTable t) (slab : Key) (there : Contains t.firsts
       let fewer = ap length firsts in
       let one = fewer_keys in
       let classes = ap length counts ∙ length-set t.counts class_of_slab (get_or t.counts class_of_slab 0 - 1) ∙ i.classes in
+      let same_open : open_in u.slots.items u.firsts.keys ≡ open_in t.slots.items rest_keys = (λ x. open_in (items x) (firsts x)) in
+      let room : vec_len u.slots ≤ open_in u.slots.items u.firsts.keys + u.bins.spare = omega (arith, i.bins_room, open_fewer, same_open) in
       let in_slots : (k : Key) → Contains u.firsts.keys k → k.minor < vec_len u.slots = λ k m. omega (arith, i.in_slots k (without_from t.firsts.keys slab k (subst (λ ks. Contains ks k) firsts m)).0) in
-      search (rules, arith, items, firsts, bins, free_items, len, counts, codes, ascending, kept_less, binned_less, charted, free_more, counts_less, i.held)
+      search (rules, arith, items, firsts, free_items, len, counts, codes, ascending, kept_less, binned_less u.bins.keys bins, charted, free_more, counts_less, i.held)
 
   pub slabs_less : (u : Table) → u.firsts.keys ≡ rest_keys → u.slots ≡ t.slots → slabs_in u ≡ slabs_without t slab
   unfolding slabs_in

@@ -1,7 +1,9 @@
 -- More slots.
-use Rattle.bin_book.proofs.Words.{nat_cmp, append-nil, append_assoc, ◌≡◌, ℕ, ◌+◌, ◌-◌, ◌*◌, ◌^◌, ◌<◌, ◌≤◌, zero, suc, eqb, List, [], ◌∷◌, ◌++◌, length, map, get_or, count_by, sym, ap, ◌∙◌, subst, arith, Contains, Some, None, vec_len, vec_capacity, range_with_len, IsStrictlySortedBy, cases_lt, nat_tests, get_or_append_left, Contains-append_cases, sum_by-append, sum_by-cons, pages_at, slab_filled, Key, IsAscending, Bits, Chart, Table, BinSlab, Grows, HasPage, holder_at, AreFreeSlots, IsBinned, IsCharted, AreSlabKeys, IsSlabIn, IsSlabTable, AreCounts, bin_key, bits_at, left_of, no_bits, regions_in, out_of_slabs, slab_at, slab_of, slabs_in, bit, map_same, range_from}
+use Rattle.bin_book.proofs.Words.{nat_cmp, append-nil, append_assoc, ◌≡◌, ℕ, ◌+◌, ◌-◌, ◌*◌, ◌^◌, ◌<◌, ◌≤◌, zero, suc, eqb, List, [], ◌∷◌, ◌++◌, length, map, get_or, count_by, sym, ap, ◌∙◌, subst, arith, Contains, Some, None, vec_len, vec_capacity, range_with_len, IsStrictlySortedBy, IsStrictlySortedBy-filter, true, Bool, count_by-le-length, cases_lt, nat_tests, get_or_append_left, Contains-append_cases, sum_by-append, sum_by-cons, pages_at, slab_filled, Key, key_cmp, is_other, head, contains_later, every_member, without_key, without_keeps, count_same, IsAscending, Bits, Chart, Table, BinSlab, Grows, HasPage, holder_at, AreFreeSlots, IsBinned, IsCharted, AreSlabKeys, IsSlabIn, IsSlabTable, AreCounts, bin_key, bin_of, bits_at, is_open, open_in, no_bits, regions_in, out_of_slabs, slab_at, slab_of, slabs_in, bit, map_same, range_from}
 use Rattle.bin_book.proofs.Regions.{regions_agree}
 use Rattle.bin_book.proofs.Adding.{count_zero}
+use Rattle.bin_book.proofs.Places.{count_without}
+use Rattle.bin_book.proofs.Taking.{less_ne}
 use Rattle.std.proofs.Common.{rules}
 use Rattle.std.specs.FinMap as map_of
 
@@ -32,6 +34,28 @@ regions_grown t i slots codes keys same agree holders = rw same (regions_agree t
     let mine = i.in_slots k m in
     holders (512 * k.minor + n) (omega arith)))
 
+-- ---- how many slabs have a free region
+
+-- as many keys at most as there are others from which each comes
+few_from : (bins keys : List Key) (f : Key → Key) (p : Key → Bool) → IsAscending bins → IsAscending keys → ((b : Key) → Contains bins b → (k : Key) × Contains keys k × (p k ≡ true) × (f k ≡ b)) → length bins ≤ count_by p keys
+unfolding IsStrictlySortedBy
+few_from [] keys f p s o from = omega arith
+few_from (b ∷ bins) keys f p s o from =
+    let q = from b (head b bins) in
+    let one : bit (p q.0) ≡ 1 = ap bit q.2 in
+    let rest = few_from bins (without_key keys q.0) f p s.1 (IsStrictlySortedBy-filter key_cmp (is_other q.0) keys o) (λ c m.
+    let r = from c (contains_later b bins c m) in
+    (r.0, without_keeps keys q.0 r.0 r.1 (λ e. less_ne b c (every_member _ bins s.0 c m) (sym q.3 ∙ ap f (sym e) ∙ r.3)), r.2, r.3)) in
+    omega (arith, count_without p keys q.0 o q.1)
+
+pub few_open : (t : Table) → IsSlabTable t → IsAscending t.bins.keys → length t.bins.keys ≤ open_in t.slots.items t.firsts.keys
+unfolding open_in
+few_open t i ascending = few_from t.bins.keys t.firsts.keys (bin_of t.slots.items) (λ k. is_open (bits_at t.slots.items k.minor)) ascending i.ascending i.binned.from
+
+pub few_slabs_open : (t : Table) → open_in t.slots.items t.firsts.keys ≤ length t.firsts.keys
+unfolding open_in
+few_slabs_open t = count_by-le-length (λ (k : Key). is_open (bits_at t.slots.items k.minor)) t.firsts.keys
+
 -- a table with more slots, and more room
 module _ (t u : Table) (i : IsSlabTable t) (firsts : u.firsts.keys ≡ t.firsts.keys) (bins : u.bins.keys ≡ t.bins.keys) (counts : u.counts ≡ t.counts) (agree : (n : ℕ) → n < vec_len t.slots → bits_at u.slots.items n ≡ bits_at t.slots.items n) (chart : Grows t.chart u.chart) where
   same_bits : (k : Key) → Contains t.firsts.keys k → bits_at u.slots.items k.minor ≡ bits_at t.slots.items k.minor
@@ -46,9 +70,16 @@ module _ (t u : Table) (i : IsSlabTable t) (firsts : u.firsts.keys ≡ t.firsts.
 
   binned_grown : IsBinned u.slots.items t.firsts.keys t.bins.keys
   binned_grown = record {
-    has = λ k m. subst (λ (b : Bits). Contains t.bins.keys (bin_key b.class (eqb (left_of b) 0) k)) (sym (same_bits k m)) (i.binned.has k m);
-    from = λ b m. let p = i.binned.from b m in (p.0, p.1, ap (λ (x : Bits). bin_key x.class (eqb (left_of x) 0) p.0) (same_bits p.0 p.1) ∙ p.2);
+    has = λ k m some. subst (λ (b : Bits). Contains t.bins.keys (bin_key b.class k)) (sym (same_bits k m)) (i.binned.has k m (ap is_open (sym (same_bits k m)) ∙ some));
+    from = λ b m.
+        let p = i.binned.from b m in
+        let same = same_bits p.0 p.1 in
+        (p.0, p.1, ap is_open same ∙ p.2, ap (λ (x : Bits). bin_key x.class p.0) same ∙ p.3);
   }
+
+  open_grown : open_in u.slots.items t.firsts.keys ≡ open_in t.slots.items t.firsts.keys
+  unfolding open_in
+  open_grown = count_same (λ k. is_open (bits_at u.slots.items k.minor)) (λ k. is_open (bits_at t.slots.items k.minor)) t.firsts.keys (λ k m. ap is_open (same_bits k m))
 
   charted_grown : IsCharted u.slots.items t.firsts.keys u.chart
   charted_grown = record {
@@ -73,10 +104,12 @@ module _ (t u : Table) (i : IsSlabTable t) (firsts : u.firsts.keys ≡ t.firsts.
       }
 
   pub table_grown : vec_len t.slots ≤ vec_len u.slots → u.free.items ≡ t.free.items ++ range_with_len (vec_len t.slots) (vec_len u.slots - vec_len t.slots) → vec_len u.free + vec_len t.slots ≡ vec_len t.free + vec_len u.slots
-      → vec_len u.slots < 2 ^ 32 → vec_len u.slots ≤ vec_capacity u.free → vec_len u.slots ≤ vec_len u.chart.firsts → vec_len u.free ≤ u.firsts.spare → vec_len u.free ≤ u.bins.spare → 512 * vec_len u.slots ≤ length u.holders → IsSlabTable u
+      → vec_len u.slots < 2 ^ 32 → vec_len u.slots ≤ vec_capacity u.free → vec_len u.slots ≤ vec_len u.chart.firsts → vec_len u.free ≤ u.firsts.spare → vec_len u.slots ≤ open_in t.slots.items t.firsts.keys + u.bins.spare → 512 * vec_len u.slots ≤ length u.holders → IsSlabTable u
   table_grown le free places small room chart_room firsts_room bins_room held =
       let len = ap length firsts in
       let classes = ap length counts ∙ i.classes in
+      let same_open : open_in u.slots.items u.firsts.keys ≡ open_in u.slots.items t.firsts.keys = ap (open_in u.slots.items) firsts in
+      let binned_room : vec_len u.slots ≤ open_in u.slots.items u.firsts.keys + u.bins.spare = omega (arith, bins_room, open_grown) in
       let in_slots : (k : Key) → Contains u.firsts.keys k → k.minor < vec_len u.slots = λ k m. omega (arith, i.in_slots k (subst (λ ks. Contains ks k) firsts m)) in
       search (rules, arith, firsts, bins, counts, free, slabs_grown, i.ascending, kept_grown, binned_grown, charted_grown, free_grown le, i.counts)
 

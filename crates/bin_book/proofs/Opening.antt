@@ -1,5 +1,5 @@
 -- The lowest keys of a set, as a key comes or goes.
-use Rattle.bin_book.proofs.Words.{◌≡◌, ◌≢◌, ℕ, ◌*◌, ◌<◌, ◌/◌, ◌≤◌, true, false, List, [], ◌∷◌, find, get_or, set, length, Option, Some, None, ◌⊎◌, inl, inr, refl, sym, ap, subst, arith, Contains, Less, MatchOption, IsStrictlySortedBy, cases_eq, get_or-set_other, get_or-set_same, Key, IsAscending, is_from, key_cmp, with_key, without_key, with_from, with_keeps, with_self, without_from, without_keeps, contains_cases, first_of, less_parts, start, start_from, every_member, AreLowest, IsLeast, IsLowest, found}
+use Rattle.bin_book.proofs.Words.{◌≡◌, ◌≢◌, ℕ, ◌<◌, ◌≤◌, true, false, List, [], ◌∷◌, find, get_or, set, length, Option, Some, None, ◌⊎◌, inl, inr, refl, sym, ap, ◌∙◌, subst, arith, Contains, Less, MatchOption, IsStrictlySortedBy, cases_eq, get_or-set_other, get_or-set_same, Key, IsAscending, is_from, key_cmp, with_key, without_key, with_from, with_keeps, with_self, without_from, without_keeps, contains_cases, first_of, less_parts, start, start_from, every_member, AreLowest, IsLeast, IsLowest, found}
 
 -- the first key from a start on is below each other one from there on
 least : (ks : List Key) (first y x : Key) → IsAscending ks → find (is_from first) ks ≡ Some y → Contains ks x → is_from first x ≡ true → (y ≡ x) ⊎ (key_cmp y x ≡ Less)
@@ -48,35 +48,33 @@ lowest_without keys key major (Some f) i other = record {
 -- ---- of all classes
 
 pub none_yet : (keys : List Key) (lows : List (Option Key)) → keys ≡ [] → ((class : ℕ) → class < 36 → get_or lows class None ≡ None) → AreLowest keys lows
-none_yet keys lows e none class small = subst (IsLowest keys (2 * class)) (sym (none class small)) (λ k m at. absurd (let no : Contains [] k = subst (λ ks. Contains ks k) e m in omega (arith, no.1)))
+none_yet keys lows e none class small = subst (IsLowest keys class) (sym (none class small)) (λ k m at. absurd (let no : Contains [] k = subst (λ ks. Contains ks k) e m in omega (arith, no.1)))
 
 module _ (keys : List Key) (key : Key) (lows : List (Option Key)) (i : AreLowest keys lows) where
-  pub stayed : ((class : ℕ) → class < 36 → key.major ≡ 2 * class → (f : Key) × (get_or lows class None ≡ Some f) × (f.minor ≤ key.minor)) → AreLowest (with_key keys key) lows
-  stayed higher c low = lowest_with keys key (2 * c) (get_or lows c None) (i c low) (higher c low)
+  pub stayed : ((class : ℕ) → class < 36 → key.major ≡ class → (f : Key) × (get_or lows class None ≡ Some f) × (f.minor ≤ key.minor)) → AreLowest (with_key keys key) lows
+  stayed higher c low = lowest_with keys key c (get_or lows c None) (i c low) (higher c low)
 
-  pub still : get_or lows (key.major / 2) None ≢ Some key → AreLowest (without_key keys key) lows
-  still other c low = lowest_without keys key (2 * c) (get_or lows c None) (i c low) (λ e.
-      let at = (subst (IsLowest keys (2 * c)) e (i c low)).at in
-      other (subst (λ n. get_or lows n None ≡ Some key) (omega arith) e))
+  pub still : get_or lows key.major None ≢ Some key → AreLowest (without_key keys key) lows
+  still other c low = lowest_without keys key c (get_or lows c None) (i c low) (λ e. other (subst (λ n. get_or lows n None ≡ Some key) (sym (subst (IsLowest keys c) e (i c low)).at) e))
 
   module _ (class : ℕ) (small : class < 36) (len : length lows ≡ 36) where
     -- where one class has another lowest key
-    one_changed : (after : List Key) (o : Option Key) → IsLowest after (2 * class) o → ((c : ℕ) → c < 36 → c ≢ class → IsLowest after (2 * c) (get_or lows c None)) → AreLowest after (set lows class o)
+    one_changed : (after : List Key) (o : Option Key) → IsLowest after class o → ((c : ℕ) → c < 36 → c ≢ class → IsLowest after c (get_or lows c None)) → AreLowest after (set lows class o)
     one_changed after o here others c low = elim (cases_eq c class) [
       | inl e ↦ rw (e, get_or-set_same lows class o None (omega arith)) here
-      | inr ne ↦ subst (IsLowest after (2 * c)) (sym (get_or-set_other lows class c o None ne)) (others c low ne)
+      | inr ne ↦ subst (IsLowest after c) (sym (get_or-set_other lows class c o None ne)) (others c low ne)
     ]
 
-    pub opened : key.major ≡ 2 * class → ((f : Key) → get_or lows class None ≡ Some f → key.minor ≤ f.minor) → AreLowest (with_key keys key) (set lows class (Some key))
+    pub opened : key.major ≡ class → ((f : Key) → get_or lows class None ≡ Some f → key.minor ≤ f.minor) → AreLowest (with_key keys key) (set lows class (Some key))
     opened is lower = one_changed (with_key keys key) (Some key)
         (subst (λ m. IsLeast (with_key keys key) m key) is (lowest_new keys key (get_or lows class None) (subst (λ m. IsLowest keys m (get_or lows class None)) (sym is) (i class small)) lower))
-        (λ c low ne. lowest_with keys key (2 * c) (get_or lows c None) (i c low) (λ e. absurd (ne (omega arith))))
+        (λ c low ne. lowest_with keys key c (get_or lows c None) (i c low) (λ e. absurd (ne (sym e ∙ is))))
 
     pub sought : get_or lows class None ≡ Some key → (o : Option Key) → IsLowest (without_key keys key) key.major o → AreLowest (without_key keys key) (set lows class o)
     sought was o here =
-        let is : key.major ≡ 2 * class = (subst (IsLowest keys (2 * class)) was (i class small)).at in
+        let is : key.major ≡ class = (subst (IsLowest keys class) was (i class small)).at in
         one_changed (without_key keys key) o (subst (λ m. IsLowest (without_key keys key) m o) is here)
-        (λ c low ne. lowest_without keys key (2 * c) (get_or lows c None) (i c low) (λ e. ne (let at : key.major ≡ 2 * c = (subst (IsLowest keys (2 * c)) e (i c low)).at in omega arith)))
+        (λ c low ne. lowest_without keys key c (get_or lows c None) (i c low) (λ e. ne (sym (subst (IsLowest keys c) e (i c low)).at ∙ is)))
 
 -- a key that isn't lower than the kept one
 pub not_lower : (key : Key) (o : Option Key) → MatchOption o (false ≡ true) (λ f. (false ≡ true → key.minor < f.minor) × (key.minor < f.minor → false ≡ true)) → (f : Key) × (o ≡ Some f) × (f.minor ≤ key.minor)

@@ -1,6 +1,7 @@
 -- The places of a slab with their addresses, and slabs under their keys, as bits are written.
-use Rattle.bin_book.proofs.Words.{nat_tests, any_map, ◌≡◌, ℕ, ◌+◌, ◌-◌, ◌*◌, ◌++◌, ◌<◌, ◌≤◌, zero, suc, Bool, true, false, not, ◌&&◌, ◌||◌, eqb, List, [], ◌∷◌, length, map, filter, get_or, set, count_by, position, Some, inl, inr, refl, sym, ap, ◌∙◌, arith, ◌≢◌, ◌^◌, ◌⊎◌, subst, Contains, range_with_len, mul-le-mul_right, cases_Bool, cases_eq, eq-eqb, get_or-set_at, get_or-set_other, get_or-set_same, position-Some, length-filter, sum_by-cons, size_at, pages_at, regions_at, size_bounds, slab_filled, filter_from, filter_has, with_from, with_keeps, with_self, without_from, without_keeps, is_among, place, with_free, with_regions_out, ones, slab_of, IsBinned, IsCharted, AreSlabKeys, IsMoved, IsSlabIn, bin_key, bin_of, bits_at, left_of, no_bits, slab_at, any_has, any_none, bit, filter_both, filter_map_is, filter_same, map_has, range_from, range_has, count_map, count_same, tied_itself, Bits, Key, with_key, without_key, key_tie, key_total, Chart, HasPage}
+use Rattle.bin_book.proofs.Words.{nat_tests, any_map, ◌≡◌, ℕ, ◌+◌, ◌-◌, ◌*◌, ◌++◌, ◌<◌, ◌≤◌, zero, suc, Bool, true, false, not, ◌&&◌, ◌||◌, eqb, List, [], ◌∷◌, length, map, filter, get_or, set, count_by, position, Some, inl, inr, refl, sym, ap, ◌∙◌, arith, ◌≢◌, ◌^◌, ◌⊎◌, subst, Contains, range_with_len, mul-le-mul_right, cases_Bool, cases_eq, eq-eqb, get_or-set_at, get_or-set_other, get_or-set_same, position-Some, length-filter, sum_by-cons, size_at, pages_at, regions_at, size_bounds, slab_filled, filter_from, filter_has, with_from, with_keeps, with_self, without_from, without_keeps, is_among, place, with_free, with_regions_out, ones, slab_of, IsBinned, IsCharted, AreSlabKeys, IsMoved, IsSlabIn, bin_key, bin_of, bits_at, is_open, open_in, no_bits, slab_at, any_has, any_none, bit, filter_both, filter_map_is, filter_same, map_has, range_from, range_has, count_map, count_same, tied_itself, is_eq, Bits, Key, IsAscending, key_cmp, length_without, with_key, without_key, key_tie, key_total, Chart, HasPage}
 use Rattle.std.proofs.lemmas.List.Elements.{filter-append}
+use Rattle.list_facts.proofs.Members.{count_less_one, kept_length}
 
 -- ---- free places, by their numbers
 
@@ -87,24 +88,37 @@ filter_split p m n le = let whole : n ≡ m + (n - m) = omega arith in ap (λ k.
 pub key_cases : (a b : Key) → (a ≡ b) ⊎ (a ≢ b)
 key_cases a b = grind (arith, key_tie a b, tied_itself key_total a)
 
--- a key in place of another one
-pub moved : (old mid new : List Key) (was now : Key) → mid ≡ without_key old was → new ≡ with_key mid now → IsMoved old new was now
-moved old mid new was now first second = record {
-  keeps = λ k m ne. rw (second, first) (with_keeps (without_key old was) now k (without_keeps old was k m ne));
-  now_there = rw second (with_self mid now);
-  from = λ k m. grind (arith, with_from mid now k (rw second at m), without_from old was k, first);
+-- a key comes, goes, or stands there as it is to
+pub came : (old new : List Key) (key : Key) → new ≡ with_key old key → IsMoved old new key true
+came old new key is = record {
+  keeps = λ k ne m. rw is (with_keeps old key k m);
+  only = λ k ne m. elim (with_from old key k (rw is at m)) [ inl e ↦ absurd (ne e) | inr d ↦ d ];
+  there = λ t. rw is (with_self old key);
+  gone = λ m. refl;
 }
 
-pub unmoved : (keys : List Key) (was now : Key) → was ≡ now → Contains keys was → IsMoved keys keys was now
-unmoved keys was now e m = record { keeps = λ k n ne. n; now_there = subst (Contains keys) e m; from = λ k n. grind (arith, key_cases k was, e, n) }
+pub went : (old new : List Key) (key : Key) → new ≡ without_key old key → IsMoved old new key false
+went old new key is = record {
+  keeps = λ k ne m. rw is (without_keeps old key k m ne);
+  only = λ k ne m. (without_from old key k (rw is at m)).0;
+  there = λ t. absurd (cc);
+  gone = λ m. absurd ((without_from old key key (rw is at m)).1 refl);
+}
+
+pub unmoved : (keys : List Key) (key : Key) (was is : Bool) → was ≡ is → (was ≡ true → Contains keys key) × (Contains keys key → was ≡ true) → IsMoved keys keys key is
+unmoved keys key was is e stood = record { keeps = λ k ne m. m; only = λ k ne m. m; there = λ t. stood.0 (e ∙ t); gone = λ m. sym e ∙ stood.1 m }
 
 -- the key of a slab among those of its class tells its key
-pub same_slab : (class d : ℕ) (a b : Bool) (k l : Key) → k.minor < 2 ^ 32 → l.minor < 2 ^ 32 → bin_key class a k ≡ bin_key d b l → k ≡ l
-same_slab class d a b k l low high e =
+pub same_slab : (class d : ℕ) (k l : Key) → k.minor < 2 ^ 32 → l.minor < 2 ^ 32 → bin_key class k ≡ bin_key d l → k ≡ l
+same_slab class d k l low high e =
     let minor : k.major * 2 ^ 32 + k.minor ≡ l.major * 2 ^ 32 + l.minor = ap (λ (x : Key). x.minor) e in
     let first : k.major ≡ l.major = omega arith in
     let second : k.minor ≡ l.minor = omega arith in
     λ i. record { major = first i; minor = second i }
+
+-- as many of the other keys are counted
+pub count_without : (p : Key → Bool) (ks : List Key) (key : Key) → IsAscending ks → Contains ks key → count_by p (without_key ks key) + bit (p key) ≡ count_by p ks
+count_without p ks key s m = count_less_one (λ k. is_eq (key_cmp k key)) p ks key m (ap is_eq (tied_itself key_total key)) (omega (arith, kept_length (λ k. is_eq (key_cmp k key)) ks, length_without ks key s m))
 
 -- ---- slots
 
@@ -166,22 +180,27 @@ module _ (slots : List Bits) (keys : List Key) (kept : AreSlabKeys slots keys) (
       count_map (slab_at (set slots key.minor new)) (λ s. eqb s.class c) keys ∙ count_same (λ k. eqb (bits_at (set slots key.minor new) k.minor).class c) (λ k. eqb (bits_at slots k.minor).class c) keys (λ k m. ap (λ d. eqb d c) (class_stays k m))
       ∙ sym (count_map (slab_at slots) (λ s. eqb s.class c) keys)
 
-  -- its key among those of its class moves
-  pub binned_changed : (small : (k : Key) → Contains keys k → k.minor < 2 ^ 32) (bins after : List Key) → IsBinned slots keys bins → IsMoved bins after (bin_of slots key) (bin_key new.class (eqb (left_of new) 0) key) → IsBinned (set slots key.minor new) keys after
+  -- its key among those of its class stands there where it has a free region
+  pub binned_changed : (small : (k : Key) → Contains keys k → k.minor < 2 ^ 32) (bins after : List Key) → IsBinned slots keys bins → IsMoved bins after (bin_key new.class key) (is_open new) → IsBinned (set slots key.minor new) keys after
   binned_changed small bins after binned moved = record {
-    has = by_key (λ k b. Contains after (bin_key b.class (eqb (left_of b) 0) k)) moved.now_there
-        (λ k m ne. moved.keeps (bin_of slots k) (binned.has k m) (λ e. ne (same_slab _ _ _ _ k key (small k m) (small key there) e)));
-    from = λ b m. elim (moved.from b m) [
-      | inl e ↦ (key, there, ap (λ (x : Bits). bin_key x.class (eqb (left_of x) 0) key) is_new ∙ sym e)
-      | inr d ↦
-          let p = binned.from b d.0 in
-          let ne : p.0 ≢ key = (λ e. d.1 (sym p.2 ∙ ap (bin_of slots) e)) in
-          (p.0, p.1, ap (λ (x : Bits). bin_key x.class (eqb (left_of x) 0) p.0) (others_stay p.0 p.1 ne) ∙ p.2)
+    has = by_key (λ k b. is_open b ≡ true → Contains after (bin_key b.class k)) moved.there
+        (λ k m ne some. moved.keeps (bin_of slots k) (λ e. ne (same_slab _ _ k key (small k m) (small key there) e)) (binned.has k m some));
+    from = λ b m. elim (key_cases b (bin_key new.class key)) [
+      | inl e ↦ (key, there, ap is_open is_new ∙ moved.gone (subst (Contains after) e m), ap (λ (x : Bits). bin_key x.class key) is_new ∙ sym e)
+      | inr ne ↦
+          let p = binned.from b (moved.only b ne m) in
+          let other : p.0 ≢ key = (λ e. ne (sym p.3 ∙ ap (bin_of slots) e ∙ ap (λ c. bin_key c key) (sym class))) in
+          let same = others_stay p.0 p.1 other in
+          (p.0, p.1, ap is_open same ∙ p.2, ap (λ (x : Bits). bin_key x.class p.0) same ∙ p.3)
     ];
   }
 
-  -- the new key isn't there, unless it is the old one
-  pub bin_absent : (small : (k : Key) → Contains keys k → k.minor < 2 ^ 32) (bins : List Key) → IsBinned slots keys bins → (full : Bool) → bin_key new.class full key ≢ bin_of slots key → Contains bins (bin_key new.class full key) → ⊥
-  bin_absent small bins binned full ne m =
-      let p = binned.from _ m in
-      ne (sym p.2 ∙ ap (bin_of slots) (same_slab _ _ _ _ p.0 key (small p.0 p.1) (small key there) p.2))
+  -- and it is counted there
+  pub open_changed : IsAscending keys → open_in (set slots key.minor new) keys + bit (is_open (bits_at slots key.minor)) ≡ open_in slots keys + bit (is_open new)
+  unfolding open_in
+  open_changed ascending =
+      let before = λ (k : Key). is_open (bits_at slots k.minor) in
+      let after = λ (k : Key). is_open (bits_at (set slots key.minor new) k.minor) in
+      let others = count_same after before (without_key keys key) (λ k m. let p = without_from keys key k m in ap is_open (others_stay k p.0 p.1)) in
+      let here = ap (λ (b : Bits). bit (is_open b)) is_new in
+      omega (arith, count_without after keys key ascending there, count_without before keys key ascending there)

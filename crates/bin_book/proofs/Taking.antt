@@ -1,7 +1,7 @@
 -- The lowest slab with a free region, a region that is taken out of it or put back, and a slab that leaves.
-use Rattle.bin_book.proofs.Words.{◌≡◌, ◌≢◌, ℕ, ◌+◌, ◌*◌, ◌^◌, ◌<◌, Bool, true, false, eqb, List, [], ◌∷◌, length, length-append, map, get_or, Option, Some, None, inl, inr, refl, sym, ap, ◌∙◌, subst, arith, Contains, Less, Equal, vec_len, is_some, IfNone, IfSome, ◌≤◌, ltb, length-set, set, count_by, position, IsSome, not, filter, is_eq, IsStrictlySortedBy, cases_eq, cases_lt, eqb-true, false_from_ne_true, get_or-set_at, nat_tests, tied_itself, get_or_read_under, length-map, get_or-set_other, Key, IsAscending, key_cmp, KeySet, is_other, without_key, key_total, contains_cases, contains_later, other_from, without_from, less_major, every_member, Bits, regions_at, Table, free_of, place, BinSlab, with_free, with_regions_out, is_all_free, IsLeast, IsLowestOpen, IsSlabTable, AreCounts, bin_of, bits_at, left_of, no_bits, ones, slab_at, slabs_in, IsMoved, IsOutAt, IsSlabIn, bin_key, slab_of, slabs_without, head, bit, map_both, map_same, any_has, any_map, any_none, filter_all_of, filter_map_is, filter_same, map_from, map_has, position_or_len, list_any, position-Some, pages_bounds, slab_filled, fails_before_first, count_none, sum_by-set}
+use Rattle.bin_book.proofs.Words.{◌≡◌, ◌≢◌, ℕ, ◌+◌, ◌*◌, ◌^◌, ◌<◌, Bool, true, false, eqb, List, [], ◌∷◌, length, length-append, map, get_or, Option, Some, None, inl, inr, refl, sym, ap, ◌∙◌, subst, arith, Contains, Less, Equal, vec_len, is_some, IfNone, IfSome, ◌≤◌, ltb, length-set, set, count_by, position, IsSome, not, filter, is_eq, IsStrictlySortedBy, cases_eq, cases_lt, eqb-true, false_from_ne_true, get_or-set_at, nat_tests, tied_itself, get_or_read_under, length-map, get_or-set_other, Key, IsAscending, key_cmp, KeySet, is_other, without_key, length_without, count_by-le-length, key_total, contains_cases, contains_later, other_from, without_from, less_major, every_member, Bits, regions_at, Table, free_of, place, BinSlab, with_free, with_regions_out, is_all_free, IsLeast, IsLowestOpen, IsSlabTable, AreCounts, bin_of, bits_at, is_open, open_in, left_of, no_bits, ones, slab_at, slabs_in, IsMoved, IsOutAt, IsSlabIn, bin_key, slab_of, slabs_without, head, bit, map_both, map_same, any_has, any_map, any_none, filter_all_of, filter_map_is, filter_same, map_from, map_has, position_or_len, list_any, position-Some, pages_bounds, slab_filled, fails_before_first, count_none, sum_by-set}
 use Rattle.std.proofs.Common.{rules}
-use Rattle.bin_book.proofs.Places.{length_ones, freed_slab, lowest_one, same_place, taken_slab, binned_changed, charted_changed, by_key, counts_stay, is_new, kept_changed, one_place, others_stay, key_cases}
+use Rattle.bin_book.proofs.Places.{length_ones, freed_slab, lowest_one, same_place, taken_slab, binned_changed, charted_changed, by_key, counts_stay, is_new, kept_changed, open_changed, count_without, same_slab, one_place, others_stay, key_cases}
 
 -- a key below another one is another one
 pub less_ne : (a b : Key) → key_cmp a b ≡ Less → a ≢ b
@@ -31,29 +31,47 @@ read_bits t i k m x e = get_or_read_under t.slots.items k.minor (vec_len t.slots
 pub full_free : (t : Table) → IsSlabTable t → (k : Key) → Contains t.firsts.keys k → left_of (bits_at t.slots.items k.minor) ≡ 0 → (slab_at t.slots.items k).free ≡ []
 full_free t i k m e = ap (map (place (bits_at t.slots.items k.minor).class k.major)) (no_ones _ (length_free t i k m ∙ e))
 
--- a slab of a class with free regions has a key from the start of the class on
-pub open_key : (t : Table) (class : ℕ) (k : Key) → (bits_at t.slots.items k.minor).class ≡ class → 0 < left_of (bits_at t.slots.items k.minor) → (bin_of t.slots.items k).major ≡ 2 * class
-open_key t class k e some = let f : eqb (left_of (bits_at t.slots.items k.minor)) 0 ≡ false = grind (arith, nat_tests) in rw f (omega arith)
+-- a slab has a free region, or none
+pub is_open_from : (bits : Bits) → 0 < left_of bits → is_open bits ≡ true
+is_open_from bits some = grind (arith, nat_tests)
 
--- where there is no such key, no region of the class is free
-pub none_open : (t : Table) → IsSlabTable t → (class : ℕ) → ((b : Key) → Contains t.bins.keys b → b.major ≢ 2 * class) → free_of class (slabs_in t) ≡ []
+open_from : (bits : Bits) → is_open bits ≡ true → 0 < left_of bits
+open_from bits some = grind (arith, nat_tests)
+
+-- the key of a slab stands in the bins just while it has one
+pub open_there : (t : Table) → IsSlabTable t → (key : Key) → Contains t.firsts.keys key → (is_open (bits_at t.slots.items key.minor) ≡ true → Contains t.bins.keys (bin_of t.slots.items key)) × (Contains t.bins.keys (bin_of t.slots.items key) → is_open (bits_at t.slots.items key.minor) ≡ true)
+open_there t i key there = (
+  i.binned.has key there,
+  λ m.
+      let p = i.binned.from _ m in
+      subst (λ (k : Key). is_open (bits_at t.slots.items k.minor) ≡ true) (same_slab _ _ p.0 key (small_numbers t i p.0 p.1) (small_numbers t i key there) p.3) p.2,
+)
+
+-- and there is room for it while it has none
+pub open_room : (t : Table) → IsSlabTable t → (key : Key) → Contains t.firsts.keys key → 1 ≤ t.bins.spare + bit (is_open (bits_at t.slots.items key.minor))
+unfolding open_in
+open_room t i key there =
+    let stands = λ (k : Key). is_open (bits_at t.slots.items k.minor) in
+    omega (arith, i.bins_room, i.places, count_without stands t.firsts.keys key i.ascending there, count_by-le-length stands (without_key t.firsts.keys key), length_without t.firsts.keys key i.ascending there)
+
+-- where no key has the class, no region of it is free
+pub none_open : (t : Table) → IsSlabTable t → (class : ℕ) → ((b : Key) → Contains t.bins.keys b → b.major ≢ class) → free_of class (slabs_in t) ≡ []
 unfolding slabs_in
-none_open t i class none = free_none t.slots.items class t.firsts.keys (λ k m e. full_free t i k m (grind (arith, none (bin_of t.slots.items k) (i.binned.has k m), open_key t class k e)))
+none_open t i class none = free_none t.slots.items class t.firsts.keys (λ k m e. full_free t i k m (grind (arith, nat_tests, none (bin_of t.slots.items k), i.binned.has k m, e)))
 
--- the lowest key of the class's first number is that of the lowest slab
-pub found_open : (t : Table) → IsSlabTable t → (class : ℕ) (bin key : Key) → IsLeast t.bins.keys (2 * class) bin → key.major * 2 ^ 32 + key.minor ≡ bin.minor → key.minor < 2 ^ 32 → IsLowestOpen t class key
+-- the lowest key of the class is that of the lowest slab
+pub found_open : (t : Table) → IsSlabTable t → (class : ℕ) (bin key : Key) → IsLeast t.bins.keys class bin → key.major * 2 ^ 32 + key.minor ≡ bin.minor → key.minor < 2 ^ 32 → IsLowestOpen t class key
 found_open t i class bin key b minor low =
     let p = i.binned.from bin b.there in
     let small = small_numbers t i p.0 p.1 in
-    let minors : p.0.major * 2 ^ 32 + p.0.minor ≡ bin.minor = ap (λ (k : Key). k.minor) p.2 in
+    let minors : p.0.major * 2 ^ 32 + p.0.minor ≡ bin.minor = ap (λ (k : Key). k.minor) p.3 in
     let first : p.0.major ≡ key.major = omega arith in
     let second : p.0.minor ≡ key.minor = omega arith in
-    let majors : (bin_of t.slots.items p.0).major ≡ 2 * class = ap (λ (k : Key). k.major) p.2 ∙ b.at in
     subst (IsLowestOpen t class) (λ k. record { major = first k; minor = second k }) (record {
       there = p.1;
-      of_class = grind (arith, nat_tests);
-      some_free = grind (arith, nat_tests);
-      lowest = λ k m c free. omega (arith, b.least (bin_of t.slots.items k) (i.binned.has k m) (open_key t class k c free), small_numbers t i k m);
+      of_class = ap (λ (k : Key). k.major) p.3 ∙ b.at;
+      some_free = open_from (bits_at t.slots.items p.0.minor) p.2;
+      lowest = λ k m c free. omega (arith, b.least (bin_of t.slots.items k) (i.binned.has k m (is_open_from (bits_at t.slots.items k.minor) free)) c, small_numbers t i k m);
     })
 
 -- the free regions of a slab are among those of its class
@@ -113,11 +131,13 @@ module _ (t : Table) (i : IsSlabTable t) (key : Key) (there : Contains t.firsts.
   pub in_items : key.minor < length t.slots.items
   in_items = let l = i.in_slots key there in let same = t.slots.ok.0 in omega arith
 
-  pub table_changed : IsSlabIn new key.major → (u : Table) → u.firsts ≡ t.firsts → u.slots.items ≡ after → vec_len u.slots ≡ vec_len t.slots → u.free ≡ t.free → u.counts ≡ t.counts → u.chart ≡ t.chart → IsMoved t.bins.keys u.bins.keys (bin_of t.slots.items key) (bin_key new.class (eqb (left_of new) 0) key) → u.bins.spare ≡ t.bins.spare → length u.holders ≡ length t.holders → IsSlabTable u
+  pub table_changed : IsSlabIn new key.major → (u : Table) → u.firsts ≡ t.firsts → u.slots.items ≡ after → vec_len u.slots ≡ vec_len t.slots → u.free ≡ t.free → u.counts ≡ t.counts → u.chart ≡ t.chart → IsMoved t.bins.keys u.bins.keys (bin_key new.class key) (is_open new) → u.bins.spare + bit (is_open new) ≡ t.bins.spare + bit (is_open (bits_at t.slots.items key.minor)) → length u.holders ≡ length t.holders → IsSlabTable u
   unfolding slabs_in
   table_changed is u firsts items len free counts chart moved spare codes =
       let keys = ap (λ (s : KeySet). s.keys) firsts in
       let in_slots : (k : Key) → Contains u.firsts.keys k → k.minor < vec_len u.slots = rw (keys, len) i.in_slots in
+      let same_open : open_in u.slots.items u.firsts.keys ≡ open_in after t.firsts.keys = (λ x. open_in (items x) (keys x)) in
+      let room : vec_len u.slots ≤ open_in u.slots.items u.firsts.keys + u.bins.spare = omega (arith, i.bins_room, open_changed t.slots.items t.firsts.keys i.kept key there in_items new class i.ascending) in
       let same : AreCounts u.counts (slabs_in u) = rw (counts, items, keys) (λ c small. i.counts c small ∙ sym (counts_stay t.slots.items t.firsts.keys i.kept key there in_items new class c)) in
       search (
         rules,

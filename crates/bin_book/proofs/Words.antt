@@ -44,7 +44,7 @@ pub use Rattle.bin_book.specs.Charts.{HasPage, Grows, first_at}
 pub use Rattle.bin_book.specs.ClassSets.{AreLowest, IsLeast, IsLowest}
 pub use Rattle.bin_book.specs.Holders.{AreBlocks, block_of, code_at, holder_at}
 unfoldable pub use Rattle.bin_book.specs.Holders.{codes_in}
-pub use Rattle.bin_book.specs.Tables.{AreCounts, AreFreeSlots, IsBinned, IsCharted, AreSlabKeys, IsSlabIn, IsSlabTable, bin_key, bin_of, bits_at, left_of, ones, slab_region, regions_in, slab_at, slab_of, slabs_without, IsOutAt, no_bits, regions_without, HasOut, IsLastKeyBelow, IsMoved, out_of, zeros, IsLowestOpen}
-unfoldable pub use Rattle.bin_book.specs.Tables.{out_of_slabs, slabs_in}
+pub use Rattle.bin_book.specs.Tables.{AreCounts, AreFreeSlots, IsBinned, IsCharted, AreSlabKeys, IsSlabIn, IsSlabTable, bin_key, bin_of, bits_at, is_open, left_of, ones, slab_region, regions_in, slab_at, slab_of, slabs_without, IsOutAt, no_bits, regions_without, HasOut, IsLastKeyBelow, IsMoved, out_of, zeros, IsLowestOpen}
+unfoldable pub use Rattle.bin_book.specs.Tables.{open_in, out_of_slabs, slabs_in}
 pub use Rattle.bin_book.specs.declared.chart.Chart.{Chart}
 pub use Rattle.bin_book.specs.declared.table.Table.{Table}

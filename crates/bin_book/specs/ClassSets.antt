@@ -1,5 +1,5 @@
 -- The lowest keys of a set.
-use Rattle.std.specs.Prelude.{◌≡◌, ◌≢◌, ℕ, ◌*◌, ◌<◌, ◌≤◌, List, Option, None, Contains, MatchOption, slice_index_or}
+use Rattle.std.specs.Prelude.{◌≡◌, ◌≢◌, ℕ, ◌<◌, ◌≤◌, List, Option, None, Contains, MatchOption, slice_index_or}
 use Rattle.ordered_set.specs.declared.key.Key.{Key}
 
 -- the key is the lowest one with the major number
@@ -12,6 +12,6 @@ pub record IsLeast (keys : List Key) (major : ℕ) (key : Key) : Type 0 where
 abbrev pub IsLowest : List Key → ℕ → Option Key → Type 0
 IsLowest keys major lowest = MatchOption lowest ((k : Key) → Contains keys k → k.major ≢ major) (IsLeast keys major)
 
--- the lowest key of each class that has free regions
+-- the lowest key of each class, if there is one
 abbrev pub AreLowest : List Key → List (Option Key) → Type 0
-AreLowest keys lows = (class : ℕ) → class < 36 → IsLowest keys (2 * class) (slice_index_or lows class None)
+AreLowest keys lows = (class : ℕ) → class < 36 → IsLowest keys class (slice_index_or lows class None)

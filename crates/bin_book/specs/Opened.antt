@@ -8,7 +8,7 @@ use Rattle.bin_book.specs.ClassSets.{AreLowest}
 abbrev pub set_of : Inside → KeySet
 set_of inside = inside.set
 
--- the lowest key of each class that has free regions is kept
+-- the lowest key of each class is kept
 pub record IsClassSet (inside : Inside) : Type 0 where
   pub classes : length inside.lows ≡ 36
   pub lowest : AreLowest inside.set.keys inside.lows

@@ -1,5 +1,5 @@
 -- What a table keeps of its slabs.
-use Rattle.std.specs.Prelude.{◌≡◌, ◌≢◌, ◌==◌, ◌⊎◌, ℕ, ◌+◌, ◌*◌, ◌^◌, ◌<◌, ◌≤◌, Bool, false, not, cond, List, [], map, filter, length, count_by, slice_index_or, Some, vec_len, vec_capacity, Contains}
+use Rattle.std.specs.Prelude.{◌≡◌, ◌≢◌, ◌==◌, ◌⊎◌, ℕ, ◌+◌, ◌*◌, ◌^◌, ◌<◌, ◌≤◌, Bool, true, false, not, nat_lt, List, [], map, filter, length, count_by, slice_index_or, Some, vec_len, vec_capacity, Contains}
 use Rattle.std.specs.FinMap as map_of
 use Rattle.std.specs.List.{flat_map, range_with_len}
 use Rattle.size_classes.specs.Classes.{pages_at, regions_at}
@@ -69,12 +69,20 @@ out_of_slabs slots codes keys = flat_map (out_of slots codes) keys
 abbrev pub regions_in : Table → List Region
 regions_in t = out_of_slabs t.slots.items t.holders t.firsts.keys
 
--- where a slab stands among those of its class: first those that have free regions, by first page
-abbrev pub bin_key : ℕ → Bool → Key → Key
-bin_key class full key = record { major = 2 * class + cond full 1 0; minor = key.major * 2 ^ 32 + key.minor }
+-- where a slab stands among those of its class: by first page
+abbrev pub bin_key : ℕ → Key → Key
+bin_key class key = record { major = class; minor = key.major * 2 ^ 32 + key.minor }
 
 abbrev pub bin_of : List Bits → Key → Key
-bin_of slots key = bin_key (bits_at slots key.minor).class (left_of (bits_at slots key.minor) == 0) key
+bin_of slots key = bin_key (bits_at slots key.minor).class key
+
+-- whether a slab with these bits has a free region
+abbrev pub is_open : Bits → Bool
+is_open bits = nat_lt 0 (left_of bits)
+
+-- how many slabs have a free region
+unfoldable pub open_in : List Bits → List Key → ℕ
+open_in slots keys = count_by (λ key. is_open (bits_at slots key.minor)) keys
 
 -- the bits of a slab that begins at a page: it ends in the space, and a region of it is out
 pub record IsSlabIn (bits : Bits) (first : ℕ) : Type 0 where
@@ -90,10 +98,10 @@ pub record AreSlabKeys (slots : List Bits) (keys : List Key) : Type 0 where
   pub apart : (k l : Key) → Contains keys k → Contains keys l → k.major ≤ l.major → (k ≡ l) ⊎ (k.major + pages_at (bits_at slots k.minor).class ≤ l.major)
   pub numbers : (k l : Key) → Contains keys k → Contains keys l → k.minor ≡ l.minor → k ≡ l
 
--- the bins have just the slabs
+-- the bins have just the slabs that have a free region
 pub record IsBinned (slots : List Bits) (keys bins : List Key) : Type 0 where
-  pub has : (k : Key) → Contains keys k → Contains bins (bin_of slots k)
-  pub from : (b : Key) → Contains bins b → (k : Key) × Contains keys k × (bin_of slots k ≡ b)
+  pub has : (k : Key) → Contains keys k → is_open (bits_at slots k.minor) ≡ true → Contains bins (bin_of slots k)
+  pub from : (b : Key) → Contains bins b → (k : Key) × Contains keys k × (is_open (bits_at slots k.minor) ≡ true) × (bin_of slots k ≡ b)
 
 -- the free numbers are those of slots without a slab, each once
 pub record AreFreeSlots (free : List ℕ) (keys : List Key) (slots : ℕ) : Type 0 where
@@ -116,11 +124,12 @@ pub record IsCharted (slots : List Bits) (keys : List Key) (chart : Chart) : Typ
 abbrev pub AreCounts : List ℕ → List BinSlab → Type 0
 AreCounts counts slabs = (class : ℕ) → class < 36 → slice_index_or counts class 0 ≡ count_by (λ s. s.class == class) slabs
 
--- a set of keys with one in place of another
-pub record IsMoved (old new : List Key) (was now : Key) : Type 0 where
-  pub keeps : (k : Key) → Contains old k → k ≢ was → Contains new k
-  pub now_there : Contains new now
-  pub from : (k : Key) → Contains new k → (k ≡ now) ⊎ (Contains old k × (k ≢ was))
+-- a set of keys in which one stands where it is to stand there, and the others stay
+pub record IsMoved (old new : List Key) (key : Key) (stands : Bool) : Type 0 where
+  pub keeps : (k : Key) → k ≢ key → Contains old k → Contains new k
+  pub only : (k : Key) → k ≢ key → Contains new k → Contains old k
+  pub there : stands ≡ true → Contains new key
+  pub gone : Contains new key → stands ≡ true
 
 -- the key of the last slab that begins below a page
 pub record IsLastKeyBelow (keys : List Key) (page : ℕ) (key : Key) : Type 0 where
@@ -128,7 +137,7 @@ pub record IsLastKeyBelow (keys : List Key) (page : ℕ) (key : Key) : Type 0 wh
   pub below : key.major < page
   pub last : (k : Key) → Contains keys k → k.major < page → k.major ≤ key.major
 
--- slots, sets, chart and counts keep the slabs, each slot has a code for each region, and there is room for as many as there are free slots
+-- slots, sets, chart and counts keep the slabs, each slot has a code for each region, and there is room for as many as there are slots
 pub record IsSlabTable (t : Table) : Type 0 where
   pub ascending : IsAscending t.firsts.keys
   pub kept : AreSlabKeys t.slots.items t.firsts.keys
@@ -144,7 +153,7 @@ pub record IsSlabTable (t : Table) : Type 0 where
   pub room : vec_len t.slots ≤ vec_capacity t.free
   pub chart_room : vec_len t.slots ≤ vec_len t.chart.firsts
   pub firsts_room : vec_len t.free ≤ t.firsts.spare
-  pub bins_room : vec_len t.free ≤ t.bins.spare
+  pub bins_room : vec_len t.slots ≤ open_in t.slots.items t.firsts.keys + t.bins.spare
 
 -- the slab of these bits is of the class, and its region with this number is out
 pub record HasOut (bits : Bits) (class region : ℕ) : Type 0 where

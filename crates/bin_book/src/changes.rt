@@ -1,5 +1,5 @@
 //! A slab comes, a region of it is taken or put back, or it goes.
-ghost use Rattle.std.specs.Prelude.{◌≡◌, ◌≢◌, ◌+◌, ◌*◌, ◌<◌, ◌≤◌, ◌^◌, ◌==◌, false, [], ◌∷◌, filter, map, not, length, vec_len, ℕ, IfNone, IfSome, IsSome, Contains};
+ghost use Rattle.std.specs.Prelude.{◌≡◌, ◌↔◌, ◌+◌, ◌*◌, ◌<◌, ◌≤◌, ◌^◌, ◌==◌, false, [], ◌∷◌, filter, map, not, length, vec_len, ℕ, IfNone, IfSome, IsSome, IsTrue, Contains, cond};
 ghost use Rattle.std.specs.FinMap as map_of;
 ghost use Rattle.std.specs.List.{list_any};
 ghost use Rattle.page_map.specs.declared.table.TheConstants.{PAGES};
@@ -40,8 +40,8 @@ impl Table {
             minor: u64::from(number),
         };
         self.firsts.insert(slab);
-        self.bins
-            .insert(bin_key(class, bits.free_count() == 0, slab));
+        let is_open = bits.free_count() > 0;
+        set_open(&mut self.bins, bin_key(class, slab), false, is_open);
         self.chart.add(slab, class_pages(class));
         self.slots[number as usize] = bits;
         self.counts[class as usize] += 1;
@@ -68,9 +68,8 @@ impl Table {
         let slab = self.open_slab(class)?;
         let bits = &mut self.slots[slab.minor as usize];
         let region = bits.take_lowest().unwrap();
-        let is_full = bits.free_count() == 0;
-        let was = bin_key(class, false, slab);
-        move_key(&mut self.bins, was, bin_key(class, is_full, slab));
+        let is_open = bits.free_count() > 0;
+        set_open(&mut self.bins, bin_key(class, slab), true, is_open);
         self.holders.set(slab.minor, region, Some(client));
         Some(PAGE_BYTES * slab.major + u64::from(region) * size_of(class))
     }
@@ -87,10 +86,9 @@ impl Table {
         ensures free { vec_len self.new.free ≡ vec_len self.old.free }
     {
         let bits = &mut self.slots[slab.minor as usize];
-        let was_full = bits.free_count() == 0;
+        let was_open = bits.free_count() > 0;
         bits.put(region);
-        let was = bin_key(class, was_full, slab);
-        move_key(&mut self.bins, was, bin_key(class, false, slab));
+        set_open(&mut self.bins, bin_key(class, slab), was_open, true);
     }
 
     /// Gives a region of a slab that is out another holder.
@@ -117,8 +115,8 @@ impl Table {
         ensures free { vec_len self.new.free ≡ vec_len self.old.free + 1 }
         ensures keys { length self.new.firsts.keys + 1 ≡ length self.old.firsts.keys }
     {
-        let is_full = self.left(slab) == 0;
-        self.bins.remove(bin_key(class, is_full, slab));
+        let was_open = self.left(slab) > 0;
+        set_open(&mut self.bins, bin_key(class, slab), was_open, false);
         self.firsts.remove(slab);
         self.chart.remove(slab.major, class_pages(class));
         self.free.push(slab.minor as u32).unwrap();
@@ -140,17 +138,21 @@ impl Table {
     }
 }
 
-// Puts a key in place of another one, if it is another one.
-fn move_key(bins: &mut ClassSet, was: Key, now: Key)
-    requires was_low { was.major < 72 }
-    requires now_low { now.major < 72 }
-    requires there { Contains bins.old.keys was }
-    requires absent { now ≢ was → ¬ Contains bins.old.keys now }
-    ensures keys { IsMoved bins.old.keys bins.new.keys was now }
-    ensures spare { bins.new.spare ≡ bins.old.spare }
+// Puts the key of a slab in where it opens, and takes it out where it fills up or goes.
+#[inline(always)]
+fn set_open(bins: &mut ClassSet, key: Key, was_open: bool, is_open: bool)
+    requires class { key.major < 36 }
+    requires was { IsTrue was_open ↔ Contains bins.old.keys key }
+    requires room { cond is_open 1 0 ≤ bins.old.spare + cond was_open 1 0 }
+    ensures keys { IsMoved bins.old.keys bins.new.keys key is_open }
+    ensures spare { bins.new.spare + cond is_open 1 0 ≡ bins.old.spare + cond was_open 1 0 }
 {
-    if was != now {
-        bins.remove(was);
-        bins.insert(now);
+    if was_open == is_open {
+        return;
+    }
+    if is_open {
+        bins.insert(key);
+    } else {
+        bins.remove(key);
     }
 }

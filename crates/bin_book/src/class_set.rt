@@ -1,6 +1,6 @@
-//! The keys of slabs by class, and the lowest one of each class that has a free region.
-ghost use Rattle.std.specs.Prelude.{◌≡◌, ◌+◌, ◌*◌, ◌<◌, ◌↔◌, true, max, Contains, IsTrue, MatchOption, OnOk, OnErr, []};
-ghost use Rattle.ordered_set.specs.Keys.{with_key, without_key};
+//! The keys of slabs by class, and the lowest one of each class.
+ghost use Rattle.std.specs.Prelude.{◌≡◌, ◌+◌, ◌<◌, ◌↔◌, true, max, length, Contains, IsTrue, MatchOption, OnOk, OnErr, []};
+ghost use Rattle.ordered_set.specs.Keys.{IsAscending, with_key, without_key};
 ghost use Rattle.size_classes.specs.Classes.{IsSmall};
 ghost use Rattle.bin_book.specs.ClassSets.{IsLowest};
 
@@ -9,9 +9,9 @@ use ordered_set::{Key, OrderedSet};
 use std::alloc::{AllocError as NoMemory, Global};
 use std::marker::Model;
 
-/// A set of keys whose major numbers are two for each class: the even one is that of slabs with free regions.
+/// A set of keys whose major numbers are those of classes.
 ///
-/// The lowest key of each even number is kept. So one is sought only where the kept one goes.
+/// The lowest key of each class is kept. So one is sought only where the kept one goes.
 #[derive(Drop)]
 pub struct ClassSet {
     set: OrderedSet,
@@ -50,10 +50,18 @@ impl ClassSet {
         self.set.reserve(more)
     }
 
-    /// The lowest key of a class that has free regions.
+    /// How many keys the set has.
+    pub fn len(&self) -> u64
+        ensures len { result ≡ length self.now.keys }
+        ensures ascending { IsAscending self.now.keys }
+    {
+        self.set.len()
+    }
+
+    /// The lowest key of a class.
     pub fn lowest(&self, class: u8) -> Option<Key>
         requires { IsSmall class }
-        ensures { IsLowest self.now.keys (2 * class) result }
+        ensures { IsLowest self.now.keys class result }
     {
         self.lows[class as usize]
     }
@@ -62,13 +70,13 @@ impl ClassSet {
     pub fn insert(&mut self, key: Key)
         requires room { 0 < self.old.spare }
         requires absent { ¬ Contains self.old.keys key }
-        requires class { key.major < 72 }
+        requires class { key.major < 36 }
         ensures keys { self.new.keys ≡ with_key self.old.keys key }
         ensures spare { self.new.spare + 1 ≡ self.old.spare }
     {
         self.set.insert(key);
-        let class = (key.major / 2) as usize;
-        if key.major % 2 == 0 && is_lower(key, self.lows[class]) {
+        let class = key.major as usize;
+        if is_lower(key, self.lows[class]) {
             self.lows[class] = Some(key);
         }
     }
@@ -77,12 +85,12 @@ impl ClassSet {
     #[inline(always)]
     pub fn remove(&mut self, key: Key)
         requires there { Contains self.old.keys key }
-        requires class { key.major < 72 }
+        requires class { key.major < 36 }
         ensures keys { self.new.keys ≡ without_key self.old.keys key }
         ensures spare { self.new.spare ≡ self.old.spare + 1 }
     {
         self.set.remove(key);
-        let class = (key.major / 2) as usize;
+        let class = key.major as usize;
         if self.lows[class] == Some(key) {
             self.lows[class] = lowest_of(&self.set, key.major);
         }

@@ -21,9 +21,9 @@ pub const CLASSES: usize = 36;
 // Page numbers and the numbers of slots are below this one.
 const RADIX: u64 = 1 << 32;
 
-/// Each slab has a number, the place of the slot that has its bits and the holders of its regions. Its number stands in two sets,
-/// by first page and by class, where slabs with free regions come first, and in the chart at each of
-/// its pages. A slot without a slab has its number among the free ones.
+/// Each slab has a number, the place of the slot that has its bits and the holders of its regions. Its number stands in a set by
+/// first page, in a set by class while a region of it is free, and in the chart at each of its pages. A slot without a slab has
+/// its number among the free ones.
 #[derive(Drop)]
 pub struct Table {
     pub firsts: OrderedSet,
@@ -36,13 +36,13 @@ pub struct Table {
 }
 
 /// The key of a slab among those of its class.
-pub fn bin_key(class: u8, is_full: bool, slab: Key) -> Key
+pub fn bin_key(class: u8, slab: Key) -> Key
     requires first { slab.major < 2 ^ 32 }
     requires number { slab.minor < 2 ^ 32 }
-    ensures { result ≡ bin_key class is_full slab }
+    ensures { result ≡ bin_key class slab }
 {
     Key {
-        major: 2 * u64::from(class) + u64::from(is_full),
+        major: u64::from(class),
         minor: slab.major * RADIX + slab.minor,
     }
 }
@@ -110,7 +110,7 @@ impl Table {
         ensures err { OnErr result (vec_len self.new.free ≡ vec_len self.old.free) }
     {
         self.firsts.reserve(more)?;
-        self.bins.reserve(more)?;
+        self.bins.reserve(all as u64 - self.bins.len())?;
         self.holders.reserve(all)?;
         add_slots(&mut self.slots, &mut self.free, all)
     }

@@ -1,5 +1,5 @@
-use Rattle.bin_book.proofs.Words.{IsSome, length, vec_len, ◌≡◌, ◌<◌, ◌≤◌, ◌+◌, ◌^◌, ◌∷◌, ◌++◌, [], eqb, set, Contains, option_to_list, Some, refl, sym, ap, ◌∙◌, subst, arith, pages_at, regions_at, IsAscending, with_key, slab_with_out, with_slab, HasPage, IsSlabIn, bin_key, out_of_slabs, slabs_in}
-use Rattle.bin_book.proofs.Adding.{chart_place, charted_added, codes_room, few_slabs, in_items, new_bin, new_in, new_key, new_slab, regions_added, slabs_added, table_added}
+use Rattle.bin_book.proofs.Words.{IsSome, length, vec_len, ◌≡◌, ◌<◌, ◌≤◌, ◌+◌, ◌^◌, ◌∷◌, ◌++◌, [], ltb, set, Contains, Key, IsMoved, bit, is_open, option_to_list, Some, refl, sym, ap, ◌∙◌, subst, arith, pages_at, regions_at, IsAscending, slab_with_out, with_slab, HasPage, IsSlabIn, bin_key, out_of_slabs, slabs_in}
+use Rattle.bin_book.proofs.Adding.{chart_place, charted_added, codes_room, few_slabs, in_items, new_bin, new_room, new_in, new_key, new_slab, regions_added, slabs_added, table_added}
 use Rattle.bin_book.proofs.Charting.{small_pages}
 use Rattle.bin_book.proofs.table.Table.add.Goals as goal
 
@@ -18,10 +18,15 @@ new c =
 pub insert-requires-clause-absent : goal.insert-requires-clause-absent
 insert-requires-clause-absent c = new_key c.args.self.now c.requires.table c.args.class c.args.first c.from.result c.with_out-bits.result c.with_out-bits.ensures.class (new c) c.pop.new.self.items (free c) c.requires.apart
 
-pub insert-requires-2-clause-absent : goal.insert-requires-2-clause-absent
-insert-requires-2-clause-absent c m =
+pub set_open-requires-clause-was : goal.set_open-requires-clause-was
+set_open-requires-clause-was c =
     let b = c.before.before.before.before.before in
-    new_bin c.args.self.now c.requires.table c.args.class c.args.first c.from.result c.with_out-bits.result c.with_out-bits.ensures.class (new b) c.pop.new.self.items (free b) c.requires.apart _ (subst (Contains c.args.self.now.bins.keys) c.bin_key.ensures m)
+    (λ e. absurd (cc), λ m. absurd (new_bin c.args.self.now c.requires.table c.args.class c.args.first c.from.result c.with_out-bits.result c.with_out-bits.ensures.class (new b) c.pop.new.self.items (free b) c.requires.apart (subst (Contains c.args.self.now.bins.keys) c.bin_key.ensures m)))
+
+pub set_open-requires-clause-room : goal.set_open-requires-clause-room
+set_open-requires-clause-room c =
+    let b = c.before.before.before.before.before in
+    grind (arith, new_room c.args.self.now c.requires.table c.args.class c.args.first c.from.result c.with_out-bits.result c.with_out-bits.ensures.class (new b) c.pop.new.self.items (free b) c.requires.apart c.requires.room)
 
 pub add-requires-clause-place : goal.add-requires-clause-place
 add-requires-clause-place c =
@@ -41,10 +46,13 @@ returns-clause-table c =
     let bits = c.with_out-bits.result in
     let class = c.with_out-bits.ensures.class in
     let len = subst (λ o. vec_len c.pop.new.self + length (option_to_list o) ≡ vec_len t.free) c.unwrap-number.ensures c.pop.ensures.len in
-    let key = c.insert-2.ensures.keys ∙ ap (with_key t.bins.keys) (c.bin_key.ensures ∙ (λ k. bin_key (sym class k) (eqb (c.free_count.ensures k) 0) (record { major = c.args.first; minor = c.from.result }))) in
+    let key = c.bin_key.ensures ∙ ap (λ n. bin_key n (record { major = c.args.first; minor = c.from.result })) (sym class) in
+    let left : ltb 0 c.free_count-is_open.result ≡ is_open bits = ap (λ n. ltb 0 n) c.free_count-is_open.ensures in
+    let moved = subst (λ (k : Key). IsMoved t.bins.keys c.set_open.new.bins.keys k (is_open bits)) key (subst (IsMoved t.bins.keys c.set_open.new.bins.keys c.bin_key.result) left c.set_open.ensures.keys) in
+    let spare : c.set_open.new.bins.spare + bit (is_open bits) ≡ t.bins.spare = omega (arith, c.set_open.ensures.spare, ap bit left) in
     let charted = charted_added t c.requires.table c.args.class c.args.first c.from.result bits class (new b) c.pop.new.self.items (free b) c.requires.apart c.add.new.self c.add.ensures.firsts (rw c.class_pages.ensures.pages at c.add.ensures.only) in
     table_added t c.requires.table c.args.class c.args.first c.from.result bits class (new b) c.pop.new.self.items (free b) c.requires.apart c.requires.class _ c.insert.ensures.keys c.insert.ensures.spare c.insert.ensures.ascending
-    (ap (λ n. set t.slots.items n bits) (sym c.from.ensures)) refl refl (omega arith) c.pop.ensures.capacity refl charted c.add.ensures.len key c.insert-2.ensures.spare c.give.ensures.len
+    (ap (λ n. set t.slots.items n bits) (sym c.from.ensures)) refl refl (omega arith) c.pop.ensures.capacity refl charted c.add.ensures.len moved spare c.give.ensures.len
 
 pub returns-clause-slabs : goal.returns-clause-slabs
 returns-clause-slabs c =

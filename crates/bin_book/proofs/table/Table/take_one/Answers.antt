@@ -1,6 +1,6 @@
-use Rattle.bin_book.proofs.Words.{◌≡◌, ◌<◌, ◌+◌, ◌*◌, eqb, false, set, position, Some, sym, ap, ◌∙◌, subst, arith, refl, Contains, IsSome, nat_tests, regions_at, size_at, Bits, Key, place, IsMoved, bin_key, bin_of, bits_at, left_of, out_of_slabs}
-use Rattle.bin_book.proofs.Places.{bin_absent, place_inside}
-use Rattle.bin_book.proofs.Taking.{read_bits, small_numbers, in_items, some_position, table_changed, taken_bits, is_free, taken_in, taken_lowest, taken_slabs, with_bit, within}
+use Rattle.bin_book.proofs.Words.{◌≡◌, ◌<◌, ◌+◌, ◌*◌, ◌^◌, ltb, false, set, position, Some, sym, ap, ◌∙◌, subst, arith, refl, Contains, IsSome, regions_at, size_at, Bits, Key, place, IsMoved, bin_key, bin_of, bits_at, bit, is_open, left_of, out_of_slabs}
+use Rattle.bin_book.proofs.Places.{place_inside}
+use Rattle.bin_book.proofs.Taking.{is_open_from, read_bits, some_position, table_changed, taken_bits, is_free, taken_in, taken_lowest, taken_slabs, with_bit, within}
 use Rattle.bin_book.proofs.Handing.{region_taken}
 use Rattle.bin_book.proofs.table.Table.take_one.Goals as goal
 
@@ -19,33 +19,18 @@ bits c =
     let is = read_bits t c.requires.table c.in_ok-slab.slab o.there _ c.index_mut-bits.ensures.value in
     taken_bits (bits_at t.slots.items c.in_ok-slab.slab.minor) c.index_mut-bits.result.now c.take_lowest.new.self c.take_lowest.result c.unwrap-region.result is c.unwrap-region.ensures c.take_lowest.ensures.lowest c.take_lowest.ensures.inside c.take_lowest.ensures.taken
 
--- the key that the slab had
-was : (c : goal.After-bin_key) → c.bin_key-was.result ≡ bin_of c.args.self.now.slots.items c.in_ok-slab.slab
-was c =
-    let o = c.in_ok-slab.ensures.some in
-    let some = o.some_free in
-    let none : false ≡ eqb (left_of (bits_at c.args.self.now.slots.items c.in_ok-slab.slab.minor)) 0 = grind (arith, nat_tests) in
-    c.bin_key-was.ensures ∙ (λ k. bin_key (sym o.of_class k) (none k) c.in_ok-slab.slab)
+-- the key of the slab among those of its class
+bin : (c : goal.After-bin_key) → c.bin_key.result ≡ bin_of c.args.self.now.slots.items c.in_ok-slab.slab
+bin c = c.bin_key.ensures ∙ ap (λ n. bin_key n c.in_ok-slab.slab) (sym c.in_ok-slab.ensures.some.of_class)
 
--- and the one that it has
-now : (c : goal.After-bin_key) → c.bin_key.result ≡ bin_key (bits_at c.args.self.now.slots.items c.in_ok-slab.slab.minor).class (eqb (left_of (with_bit (bits_at c.args.self.now.slots.items c.in_ok-slab.slab.minor) c.unwrap-region.result false)) 0) c.in_ok-slab.slab
-now c =
-    let o = c.in_ok-slab.ensures.some in
-    let left = c.free_count-is_full.ensures ∙ ap left_of (bits c).2 in
-    c.bin_key.ensures ∙ (λ k. bin_key (sym o.of_class k) (eqb (left k) 0) c.in_ok-slab.slab)
+-- whether it has still a free region
+left : (c : goal.After-bin_key) → ltb 0 c.free_count-is_open.result ≡ is_open (with_bit (bits_at c.args.self.now.slots.items c.in_ok-slab.slab.minor) c.unwrap-region.result false)
+left c = ap (λ n. ltb 0 n) (c.free_count-is_open.ensures ∙ ap left_of (bits c).2)
 
-pub move_key-requires-clause-there : goal.move_key-requires-clause-there
-move_key-requires-clause-there c =
+pub set_open-requires-clause-was : goal.set_open-requires-clause-was
+set_open-requires-clause-was c =
     let o = c.in_ok-slab.ensures.some in
-    subst (Contains c.args.self.now.bins.keys) (sym (was c)) (c.requires.table.binned.has c.in_ok-slab.slab o.there)
-
-pub move_key-requires-clause-absent : goal.move_key-requires-clause-absent
-move_key-requires-clause-absent c ne m =
-    let t = c.args.self.now in
-    let o = c.in_ok-slab.ensures.some in
-    let b = with_bit (bits_at t.slots.items c.in_ok-slab.slab.minor) c.unwrap-region.result false in
-    bin_absent t.slots.items t.firsts.keys c.requires.table.kept c.in_ok-slab.slab o.there (in_items t c.requires.table c.in_ok-slab.slab o.there b refl) b refl (small_numbers t c.requires.table) t.bins.keys c.requires.table.binned _ (λ e. ne (now c ∙ e ∙ sym (was c)))
-    (subst (Contains t.bins.keys) (now c) m)
+    (λ e. subst (Contains c.args.self.now.bins.keys) (sym (bin c)) (c.requires.table.binned.has c.in_ok-slab.slab o.there (is_open_from (bits_at c.args.self.now.slots.items c.in_ok-slab.slab.minor) o.some_free)), λ m. refl)
 
 -- the address that is told is that of the region
 addr : (c : goal.After-size_of) → 4096 * c.in_ok-slab.slab.major + c.from.result * c.size_of.result ≡ place (bits_at c.args.self.now.slots.items c.in_ok-slab.slab.minor).class c.in_ok-slab.slab.major c.unwrap-region.result
@@ -54,13 +39,20 @@ addr c =
     let size = c.size_of.ensures.size ∙ ap size_at (sym o.of_class) in
     λ k. 4096 * c.in_ok-slab.slab.major + c.from.ensures k * size k
 
-pub overflow_add-result : goal.overflow_add-result
-overflow_add-result c =
+-- and it fits
+fits : (c : goal.After-size_of) → 4096 * c.in_ok-slab.slab.major + c.from.result * c.size_of.result < 2 ^ 64
+fits c =
     let t = c.args.self.now in
     let o = c.in_ok-slab.ensures.some in
     let is = c.requires.table.kept.slab c.in_ok-slab.slab o.there in
     let low = place_inside (bits_at t.slots.items c.in_ok-slab.slab.minor).class c.in_ok-slab.slab.major c.unwrap-region.result is.small (bits c.before.before.before.before.before.before).1 in
-    record { fits = omega (arith, addr c) }
+    omega (arith, addr c)
+
+pub overflow_mul-result-2 : goal.overflow_mul-result-2
+overflow_mul-result-2 c = record { fits = omega (arith, fits c) }
+
+pub overflow_add-result : goal.overflow_add-result
+overflow_add-result c = record { fits = omega (arith, fits c) }
 
 pub returns : goal.returns
 returns c =
@@ -73,8 +65,10 @@ returns c =
     let codes = c.set.new.self in
     let slots = ap (set t.slots.items slab.minor) b.2 in
     let is = taken_in t c.requires.table c.args.class slab o n b.0 b.1 in
-    let moved = subst (λ (k : Key). IsMoved t.bins.keys c.move_key.new.bins.keys k c.bin_key.result) (was d) c.move_key.ensures.keys in record {
-      table = table_changed t c.requires.table slab o.there (with_bit (bits_at t.slots.items slab.minor) n false) refl is _ refl slots refl refl refl refl (subst (IsMoved t.bins.keys c.move_key.new.bins.keys (bin_of t.slots.items slab)) (now d) moved) c.move_key.ensures.spare c.set.ensures.len;
+    let moved = subst (λ (k : Key). IsMoved t.bins.keys c.set_open.new.bins.keys k (is_open (with_bit (bits_at t.slots.items slab.minor) n false))) (bin d) (subst (IsMoved t.bins.keys c.set_open.new.bins.keys c.bin_key.result) (left d) c.set_open.ensures.keys) in
+    let was = is_open_from (bits_at t.slots.items slab.minor) o.some_free in
+    let spare : c.set_open.new.bins.spare + bit (is_open (with_bit (bits_at t.slots.items slab.minor) n false)) ≡ t.bins.spare + bit (is_open (bits_at t.slots.items slab.minor)) = omega (arith, c.set_open.ensures.spare, ap bit (left d), ap bit was) in record {
+      table = table_changed t c.requires.table slab o.there (with_bit (bits_at t.slots.items slab.minor) n false) refl is _ refl slots refl refl refl refl moved spare c.set.ensures.len;
       none = tt;
       unchanged = tt;
       held = tt;

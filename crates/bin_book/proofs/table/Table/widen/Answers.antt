@@ -1,6 +1,9 @@
 use Rattle.bin_book.proofs.Words.{refl, ap, arith, KeySet}
-use Rattle.bin_book.proofs.Growing.{regions_grown, same_chart, slabs_grown, table_grown, table_roomy}
+use Rattle.bin_book.proofs.Growing.{few_open, few_slabs_open, regions_grown, same_chart, slabs_grown, table_grown, table_roomy}
 use Rattle.bin_book.proofs.table.Table.widen.Goals as goal
+
+pub overflow_sub-all : goal.overflow_sub-all
+overflow_sub-all c = omega (arith, few_open c.args.self.now c.requires.table c.len.ensures.ascending, few_slabs_open c.args.self.now)
 
 pub returns-in_err-reserve-2-clause-table : goal.returns-in_err-reserve-2-clause-table
 returns-in_err-reserve-2-clause-table c =
@@ -38,6 +41,8 @@ returns-clause-table c =
     let chart = c.requires.chart in
     let held = c.in_ok-reserve-3.ensures.ok in
     let most = slots.most in
+    let few = few_open c.args.self.now c.requires.table c.len.ensures.ascending in
+    let few' = few_slabs_open c.args.self.now in
     table_grown c.args.self.now _ c.requires.table c.reserve.ensures.keys c.reserve-2.ensures.keys refl slots.kept (same_chart c.args.self.now.chart) slots.more slots.free slots.places (omega arith) (slots.room c.requires.table.room) (omega arith) (omega arith) (omega arith) (omega arith)
 
 pub returns-clause-slabs : goal.returns-clause-slabs
