@@ -1,5 +1,5 @@
 -- How many pages of each chunk are placed, and where further ones can go. There is no chunk 0.
-use Rattle.std.specs.Prelude.{◌≡◌, ℕ, ◌+◌, ◌-◌, ◌*◌, ◌%◌, ◌/◌, ◌<◌, ◌≤◌, List, length, min, max, slice_index}
+use Rattle.std.specs.Prelude.{◌≡◌, ℕ, ◌+◌, ◌-◌, ◌*◌, ◌%◌, ◌/◌, ◌<◌, ◌≤◌, List, ◌++◌, length, replicate, min, max, slice_index}
 use Rattle.space_model.specs.declared.Span.{Span}
 
 -- how many pages a chunk has that are placed
@@ -55,9 +55,13 @@ pub record IsOff (old : List ℕ) (span : Span) (new : List ℕ) : Type 0 where
   pub chunks : length new ≡ length old
   pub each : (chunk : ℕ) → used_at new chunk ≡ used_at old chunk - pages_within span chunk
 
--- there is a number for each chunk, at most its pages; chunk 0 has none, and no chunk below the low one is free
+-- the number of each chunk, where those of the first chunks are kept: the others are 0
+unfoldable pub all_chunks : List ℕ → List ℕ
+all_chunks kept = kept ++ replicate (1048576 - length kept) 0
+
+-- a number is kept for each of the first chunks, at most its pages; chunk 0 has none, and no chunk below the low one is free
 pub record IsChunks (placed : List ℕ) (low : ℕ) : Type 0 where
-  pub chunks : length placed ≡ 1048576
+  pub chunks : length placed ≤ 1048576
   pub most : (chunk : ℕ) → used_at placed chunk ≤ 512
   pub none : used_at placed 0 ≡ 0
   pub numbered : (1 ≤ low) × (low ≤ 1048576)

@@ -1,6 +1,6 @@
 //! How many pages of each chunk are placed.
 
-ghost use Rattle.std.specs.Prelude.{◌≡◌, ℕ, ◌+◌, ◌*◌, ◌<◌, ◌≤◌, length, slice_index, ◌/◌, ◌↔◌, IsTrue, IfOk, IfSome, IfNone};
+ghost use Rattle.std.specs.Prelude.{◌≡◌, ℕ, ◌+◌, ◌<◌, ◌≤◌, ◌↔◌, max, vec_capacity, vec_len, IsTrue, IfOk, IfSome, IfNone};
 ghost use Rattle.space_model.specs.Span.{end_of, pages_end};
 ghost use Rattle.addr_space.specs.Chunks.{AreFree, IsBlank, IsFit, IsFreeSpan, IsOff, IsOn, IsPlacedSpan, NoFit, overlap, used_at};
 
@@ -11,9 +11,11 @@ use std::marker::Model;
 /// The first page above the last chunk.
 pub(crate) const END: u64 = (CHUNKS + 1) * CHUNK_PAGES;
 
-/// A number for each chunk: how many of its pages are placed. There is no chunk 0.
+/// How many pages of each chunk are placed. There is no chunk 0.
 ///
-/// No chunk below `low` is free, so a search begins there.
+/// Numbers are kept of the chunks up to the highest of which a page was ever placed, and none is placed of those above. There
+/// is room for all from the start, which costs no memory before it is written to. No chunk below `low` is free, so a search
+/// begins there.
 #[derive(Drop)]
 pub(crate) struct Chunks {
     placed: Vec<u16>,
@@ -21,22 +23,24 @@ pub(crate) struct Chunks {
 }
 
 impl Model for Chunks {
-    ghost use Rattle.std.specs.Prelude.{List, ℕ};
-    ghost use Rattle.addr_space.specs.Chunks.{IsChunks};
+    ghost use Rattle.std.specs.Prelude.{List, ℕ, ◌≤◌, vec_capacity};
+    ghost use Rattle.addr_space.specs.Chunks.{IsChunks, all_chunks};
 
     ghost Value = { List ℕ };
 
-    ghost view = { λ c. c.placed.items };
+    ghost view = { λ c. all_chunks c.placed.items };
 
-    ghost invariant = { λ c. IsChunks c.placed.items c.low };
+    ghost invariant = { λ c. IsChunks c.placed.items c.low × (1048576 ≤ vec_capacity c.placed) };
 }
 
-/// So many words that are 0.
-fn zeros(alloc: Global, count: usize) -> Result<Vec<u16>, NoMemory>
-    ensures count { IfOk result (λ words. length words.items ≡ count) }
-    ensures zero { IfOk result (λ words. (i : ℕ) → slice_index words.items i ≡ 0) }
+/// Keeps a number for each chunk below one: 0 where none was kept.
+fn lengthen(placed: &mut Vec<u16>, chunks: u64)
+    requires { chunks ≤ vec_capacity placed.old }
+    ensures len { vec_len placed.new ≡ max (vec_len placed.old) chunks }
+    ensures same { (chunk : ℕ) → used_at placed.new.items chunk ≡ used_at placed.old.items chunk }
+    ensures room { vec_capacity placed.old ≤ vec_capacity placed.new }
 {
-    vec![in alloc; 0; count]
+    placed.resize(placed.len().max(chunks as usize), 0).unwrap();
 }
 
 /// How many pages of a chunk a span has that ends at this page.
@@ -51,13 +55,31 @@ fn overlap(first: u64, end: u64, chunk: u64) -> u64
 
 impl Chunks {
     /// Nothing is placed.
+    #[tactic(auto, using(crate::proofs::AllChunks::used_all, crate::proofs::AllChunks::length_all))]
     pub(crate) fn new(alloc: Global) -> Result<Chunks, NoMemory>
         ensures { IfOk result IsBlank }
     {
         Ok(Chunks {
-            placed: zeros(alloc, (CHUNKS + 1) as usize)?,
+            placed: Vec::with_capacity(alloc, (CHUNKS + 1) as usize)?,
             low: 1,
         })
+    }
+
+    /// How many chunks have a number of their own. No page of those above is placed.
+    #[tactic(auto, using(crate::proofs::AllChunks::none_behind))]
+    fn kept(&self) -> u64
+        ensures few { result ≤ 1048576 }
+        ensures rest { AreFree self.now result 1048576 }
+    {
+        self.placed.len() as u64
+    }
+
+    /// How many pages of a chunk are placed.
+    #[tactic(auto, using(crate::proofs::AllChunks::used_all))]
+    fn used(&self, chunk: u64) -> u16
+        ensures { result ≡ used_at self.now chunk }
+    {
+        self.placed.get(chunk as usize).copied().unwrap_or(0)
     }
 
     /// The first chunk among so many from this one on of which a page is placed.
@@ -66,8 +88,8 @@ impl Chunks {
         ensures some { IfSome result (λ used. (chunk ≤ used) × (used < chunk + count) × (0 < used_at self.now used)) }
         ensures none { IfNone result (AreFree self.now chunk (chunk + count)) }
     {
-        for c in chunk..chunk + count {
-            if self.placed[c as usize] != 0 {
+        for c in chunk..(chunk + count).min(self.kept()) {
+            if self.used(c) != 0 {
                 return Some(c);
             }
         }
@@ -75,6 +97,7 @@ impl Chunks {
     }
 
     /// The lowest chunk from which on so many pages can be placed at the alignment, if there is one.
+    #[tactic(auto, using(crate::proofs::AllChunks::used_all))]
     pub(crate) fn lowest(&self, pages: u64, align: u64) -> Option<u64>
         requires { 1 ≤ align }
         ensures some { IfSome result (λ chunk. IsFit self.now pages align chunk) }
@@ -103,7 +126,7 @@ impl Chunks {
         let end = span.first + span.pages;
         for chunk in span.first / CHUNK_PAGES..end.div_ceil(CHUNK_PAGES) {
             let pages = overlap(span.first, end, chunk);
-            if 0 < pages && (chunk == 0 || self.placed[chunk as usize] != 0) {
+            if 0 < pages && (chunk == 0 || self.used(chunk) != 0) {
                 return false;
             }
         }
@@ -117,7 +140,7 @@ impl Chunks {
     {
         let end = span.first + span.pages;
         for chunk in span.first / CHUNK_PAGES..end.div_ceil(CHUNK_PAGES) {
-            if u64::from(self.placed[chunk as usize]) < overlap(span.first, end, chunk) {
+            if u64::from(self.used(chunk)) < overlap(span.first, end, chunk) {
                 return false;
             }
         }
@@ -125,26 +148,34 @@ impl Chunks {
     }
 
     /// Places the pages of a span that can be placed.
+    #[tactic(auto, using(crate::proofs::AllChunks::used_all, crate::proofs::AllChunks::length_all))]
     pub(crate) fn place(&mut self, span: Span)
         requires inside { end_of span ≤ pages_end }
         requires free { IsFreeSpan self.old span }
         ensures { IsOn self.old span self.new }
     {
+        if span.pages == 0 {
+            return;
+        }
         let end = span.first + span.pages;
-        for chunk in span.first / CHUNK_PAGES..end.div_ceil(CHUNK_PAGES) {
+        let above = end.div_ceil(CHUNK_PAGES);
+        lengthen(&mut self.placed, above);
+        for chunk in span.first / CHUNK_PAGES..above {
             self.placed[chunk as usize] += overlap(span.first, end, chunk) as u16;
         }
-        if 0 < span.pages && span.first / CHUNK_PAGES == self.low {
-            self.low = end.div_ceil(CHUNK_PAGES);
+        if span.first / CHUNK_PAGES == self.low {
+            self.low = above;
         }
     }
 
     /// Takes the pages of a span off, as far as they are placed.
+    #[tactic(auto, using(crate::proofs::AllChunks::used_all, crate::proofs::AllChunks::length_all, crate::proofs::AllChunks::none_behind))]
     pub(crate) fn take_off(&mut self, span: Span)
         ensures { IsOff self.old span self.new }
     {
-        let end = span.first.saturating_add(span.pages).min(END);
-        for chunk in span.first / CHUNK_PAGES..end.div_ceil(CHUNK_PAGES) {
+        let end = span.first.saturating_add(span.pages);
+        let above = end.div_ceil(CHUNK_PAGES).min(self.placed.len() as u64);
+        for chunk in span.first / CHUNK_PAGES..above {
             let pages = overlap(span.first, end, chunk) as u16;
             self.placed[chunk as usize] = self.placed[chunk as usize].saturating_sub(pages);
         }

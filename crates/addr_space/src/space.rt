@@ -16,7 +16,7 @@ use std::marker::Model;
 /// An honest box over the pages of the space. It places a range in the lowest chunks that are free, committed and
 /// zeroed, or at the page that is wished. It takes ranges back, accepts everything else, and tells nothing.
 ///
-/// Only `new` takes memory: one number for each chunk.
+/// Only `new` takes memory: room for a number for each chunk.
 #[derive(Drop)]
 pub struct AddrSpace {
     chunks: Chunks,
