@@ -3,3 +3,4 @@ pub mod Causes
 pub mod Splits
 pub mod Shapes
 pub mod Limits
+pub mod Pieces

@@ -1,6 +1,6 @@
 -- The limits that a line keeps to.
-use Rattle.trace_text.proofs.Words.{◌≡◌, ℕ, ℤ, pos, negsuc, ◌^◌, ◌<◌, Bool, true, false, ltb, leb, eqb, cond, List, [], ◌∷◌, Result, Ok, Err, refl, arith, IfOk, codes, bytes_eq, ltb-true, ltb-false, Rest, is_purgeable, is_decay_time, LineFault, Words, Range, Verb, Free, Publish, Take, Purge, Decay, Reset, Destroy, Create, Bind, Cache, Flush, CtlWrite, Line, ◌>>=◌, both, Gives, decimal_of, name_of, control_of, value_of, client_of, box_of, index_of, time_of, nothing_of, in_one, pointer_of, named_size_of, memalign_of, decay_time_of, switch_of, control_call_of, malloc_in_of, free_in_of, slot_verb_of, client_verb_of, arena_verb_of, unused_verb_of, verb_of, refusals_of, plan_line_of, client_line_of, other_line_of, begins_client, said_of, IsVerbWithinLimits, IsWithinLimits, ◌≤◌, ◌||◌, ◌∙◌, lit≤, rounds_of, phase_line_of}
-use Rattle.trace_text.specs.declared.lines.Line.TheVariants.{Call, Start, Step, End, At, Counts, Phase, Join}
+use Rattle.trace_text.proofs.Words.{◌≡◌, ℕ, ℤ, pos, negsuc, ◌^◌, ◌<◌, Bool, true, false, ltb, leb, eqb, cond, List, [], ◌∷◌, Result, Ok, Err, refl, arith, IfOk, codes, bytes_eq, ltb-true, ltb-false, Rest, is_purgeable, is_decay_time, LineFault, Words, Range, Verb, Free, Publish, Take, Purge, Decay, Reset, Destroy, Create, Bind, Cache, Flush, CtlWrite, Line, ◌>>=◌, both, Gives, decimal_of, name_of, control_of, value_of, client_of, box_of, index_of, time_of, nothing_of, in_one, pointer_of, named_size_of, memalign_of, decay_time_of, switch_of, control_call_of, malloc_in_of, free_in_of, slot_verb_of, client_verb_of, arena_verb_of, unused_verb_of, verb_of, refusals_of, plan_line_of, client_line_of, other_line_of, begins_client, said_of, IsVerbWithinLimits, IsWithinLimits, ◌≤◌, ◌||◌, ◌∙◌, lit≤, rounds_of, phase_line_of, Bytes, list_all, is_printable, words_of, line_of, is_blank}
+use Rattle.trace_text.specs.declared.lines.Line.TheVariants.{Blank, Call, Start, Step, End, At, Counts, Join}
 
 abbrev IsAny : {A : Type 0} → A → Type 0
 IsAny x = Unit {0}
@@ -254,7 +254,17 @@ said_within [] = tt
 said_within (word ∷ words) =
     kept_either IsWithinLimits (begins_client word) _ _ (client_line_within word words) (setting_within word words)
 
--- what is read of words in the grammar keeps to the limits
-pub within_limits : (words : List (List ℕ)) (r : Result Line LineFault) → Gives r (said_of words) → IfOk r IsWithinLimits
-within_limits words (Ok l) said = let h = said_within words in rw said at h
-within_limits words (Err e) said = tt
+line_within : (line : List ℕ) → IfOk (line_of line) IsWithinLimits
+unfolding line_of
+line_within line =
+    kept_either IsWithinLimits (list_all is_printable line) _ (Err Bytes)
+    (kept_either IsWithinLimits (is_blank line) (Ok Blank) _ tt (said_within (words_of line))) tt
+
+-- what is read of a line in the grammar keeps to the limits
+pub within_limits : (line : List ℕ) (r : Result Line LineFault) → Gives r (line_of line) → IfOk r IsWithinLimits
+within_limits line (Ok l) said = let h = line_within line in rw said at h
+within_limits line (Err e) said = tt
+
+-- and so does the client of a call
+pub client_within : (line : List ℕ) (client : ℕ) (verb : Verb) → line_of line ≡ Ok (Call client verb) → client < 32
+client_within line client verb said = let h = line_within line in (rw said at h).0

@@ -8,6 +8,7 @@ mod names;
 mod parts;
 mod ranges;
 mod reading;
+mod usual;
 mod verbs;
 
 pub use faults::LineFault;

@@ -1,6 +1,7 @@
 //! The parts of a line, each by itself, and the first cause of two.
 
-ghost use Rattle.std.specs.Prelude.{◌≡◌, Result};
+ghost use Rattle.std.specs.Prelude.{◌≡◌, ◌&&◌, Result, length, nat_le, slice_index};
+ghost use Rattle.std.specs.Char.{is_ascii_lowercase};
 ghost use Rattle.trace_text.specs.Causes.{first_cause, both, Gives};
 ghost use Rattle.trace_text.specs.Numbers.{cause_of, decimal_of, hexadecimal_of};
 ghost use Rattle.trace_text.specs.Names.{is_name_byte, is_name, name_of, is_control_byte, is_control, control_of, value_of};
@@ -60,13 +61,20 @@ pub fn name(alloc: Global, word: &[u8]) -> Result<Name, LineFault>
     Ok(Name::new(alloc, word)?)
 }
 
-fn is_region_name(word: &[u8]) -> bool
+/// Whether a word is the name of a region.
+#[inline(always)]
+pub fn is_region_name(word: &[u8]) -> bool
     ensures { result ≡ is_name word.now }
 {
-    !word.is_empty()
-        && word[0].is_ascii_lowercase()
-        && word.len() <= NAME_LIMIT
-        && all_name_bytes(word)
+    begins_name(word) && all_name_bytes(word)
+}
+
+/// Whether a word begins as the name of a region does, and isn't longer than one.
+#[inline(always)]
+pub fn begins_name(word: &[u8]) -> bool
+    ensures { result ≡ (is_ascii_lowercase (slice_index word.now 0) && nat_le (length word.now) 32) }
+{
+    !word.is_empty() && word[0].is_ascii_lowercase() && word.len() <= NAME_LIMIT
 }
 
 fn all_name_bytes(word: &[u8]) -> bool
@@ -75,7 +83,9 @@ fn all_name_bytes(word: &[u8]) -> bool
     word.iter().all(|byte| is_name_byte(*byte))
 }
 
-fn is_name_byte(byte: u8) -> bool
+/// Whether the name of a region may have this byte.
+#[inline(always)]
+pub fn is_name_byte(byte: u8) -> bool
     ensures { result ≡ is_name_byte byte }
 {
     byte.is_ascii_lowercase() || byte.is_ascii_digit() || byte == b'_'

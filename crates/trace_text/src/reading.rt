@@ -10,7 +10,7 @@ ghost use Rattle.trace_text.specs.Grammar.{is_printable, words_of, is_blank, hol
 use crate::parts::{both_parts, decimal, is};
 use crate::ranges::{box_number, client, nth, rounds};
 use crate::verbs::{nothing, only_index, verb};
-use crate::{Line, LineFault};
+use crate::{Line, LineFault, Name, Ptr, Verb, usual};
 use arrayvec::ArrayVec;
 use hook_api::Kind;
 use std::alloc::Global;
@@ -25,10 +25,28 @@ const MOST_WORDS: usize = 6;
 /// or `_`; of a `ctl` it is 1 to 100 of these or `.`, and VALUE is 1 to 20 bytes. PTR is a NAME or `@` and an address of
 /// 1 to 16 lower-case hexadecimal digits. An `Err` is the first cause that holds, in the order of `LineFault`. Each but
 /// `NoMemory` comes exactly where it holds first.
-#[tactic(auto, unfolding(crate::specs::Grammar::line_of), using(crate::proofs::Limits::within_limits, crate::proofs::Shapes::long_without_shape))]
+#[tactic(auto, using(crate::proofs::Limits::within_limits, crate::proofs::Limits::client_within))]
 pub fn read(alloc: Global, line: &[u8]) -> Result<Line, LineFault>
     ensures said { Gives result (line_of line.now) }
     ensures limits { IfOk result IsWithinLimits }
+{
+    if let Some((client, name, size)) = usual::malloc(line) {
+        let name = Name::new(alloc, name)?;
+        let verb = Verb::Malloc { name, size };
+        return Ok(Line::Call { client, verb });
+    }
+    if let Some((client, name)) = usual::free(line) {
+        let verb = Verb::Free(Ptr::Name(Name::new(alloc, name)?));
+        return Ok(Line::Call { client, verb });
+    }
+    unusual(alloc, line)
+}
+
+/// What any line says, read word by word.
+#[inline(never)]
+#[tactic(auto, unfolding(crate::specs::Grammar::line_of), using(crate::proofs::Shapes::long_without_shape))]
+fn unusual(alloc: Global, line: &[u8]) -> Result<Line, LineFault>
+    ensures { Gives result (line_of line.now) }
 {
     if !all_printable(line) {
         return Err(LineFault::Bytes);
