@@ -1,5 +1,6 @@
 -- Where names lie, and which of them calls have.
-use Rattle.std.proofs.Common.{◌≡◌, ◌⊎◌, ◌∙◌, ℕ, Bool, true, false, cond, ◌||◌, List, [], ◌∷◌, ◌++◌, Option, None, Some, refl, sym, ap, inl, inr}
+use Rattle.std.proofs.Common.{◌≡◌, ◌⊎◌, ◌∙◌, ℕ, Bool, true, false, cond, ◌||◌, List, [], ◌∷◌, ◌++◌, Option, None, Some, IfSome, refl, sym, ap, subst, inl, inr}
+use Rattle.std.specs.Prelude.{is_some}
 use Rattle.std.proofs.lemmas.List.Folds.{list_any-append}
 use Rattle.std.proofs.lemmas.Slice.Eq.{bytes_eq-Decides}
 use Rattle.std.specs.List.{list_any}
@@ -11,7 +12,7 @@ use Rattle.trace_phase.specs.Parts.{call_name}
 use Rattle.trace_phase.specs.declared.parts.PhaseCall.{PhaseCall}
 use Rattle.trace_phase.specs.declared.parts.PhaseCall.TheVariants.{Malloc, Memalign, Free, Publish, Take, Flush, Purge, Decay}
 use Rattle.phase_run.specs.declared.names.Place.{Place}
-use Rattle.phase_run.specs.Names.{learnt, named, nowhere, place_in}
+use Rattle.phase_run.specs.Names.{AreLearnt, learnt, named, nowhere, place_in}
 use Rattle.phase_run.specs.Walks.{AgreeOn}
 
 pub same_name : (name other : List ℕ) → bytes_eq name other ≡ true → name ≡ other
@@ -47,6 +48,40 @@ place_named name other place names = ap (λ o. unwrap_or o nowhere) (found_named
     by : (b : Bool) → unwrap_or (cond b (Some place) (lookup (bytes_eq name) names)) nowhere ≡ cond b place (place_in names name)
     by true = refl
     by false = refl
+
+-- ---- names that lie where they lie among others
+
+-- such a name is bound already
+same_bound : (names : List (List ℕ × Place)) (name : List ℕ) (place : Place) → lookup (bytes_eq name) names ≡ Some place → named names name place ≡ names
+same_bound [] name place is = absurd cc
+same_bound (e ∷ es) name place is = by (bytes_eq name e.0) refl (same_bound es name place)
+  where
+    by : (b : Bool) → bytes_eq name e.0 ≡ b → (lookup (bytes_eq name) es ≡ Some place → named es name place ≡ es) → named (e ∷ es) name place ≡ e ∷ es
+    by true same later = let found : Some e.1 ≡ Some place = rw same at is in let there : place ≡ e.1 = cc in rw same (ap (λ (p : Place). (e.0, p) ∷ es) there)
+    by false other later = let after : lookup (bytes_eq name) es ≡ Some place = rw other at is in rw other (ap (λ (l : List (List ℕ × Place)). e ∷ l) (later after))
+
+-- so learning it again changes nothing
+pub learnt_before : (others names : List (List ℕ × Place)) (name : List ℕ) → AreLearnt others names → is_some (lookup (bytes_eq name) names) ≡ true → learnt others names (Some name) ≡ names
+learnt_before others names name are is = by (lookup (bytes_eq name) names) refl (are name)
+  where
+    by : (found : Option Place) → lookup (bytes_eq name) names ≡ found → IfSome found (λ place. place ≡ place_in others name) → learnt others names (Some name) ≡ names
+    by None none there = let no : false ≡ true = rw none at is in absurd cc
+    by (Some place) some there = ap (named names name) (sym there) ∙ same_bound names name place some
+
+-- and they stay so once one more is learnt
+pub learnt_more : (others names : List (List ℕ × Place)) (name : Option (List ℕ)) → AreLearnt others names → AreLearnt others (learnt others names name)
+learnt_more others names None are = are
+learnt_more others names (Some own) are = λ asked. by asked (bytes_eq asked own) refl
+  where
+    so : List ℕ → Option Place → Type 0
+    so asked found = IfSome found (λ place. place ≡ place_in others asked)
+
+    by : (asked : List ℕ) (b : Bool) → bytes_eq asked own ≡ b → so asked (lookup (bytes_eq asked) (named names own (place_in others own)))
+    by asked true same =
+        subst (so asked) (sym (found_named asked own (place_in others own) names ∙ ap (λ b. cond b (Some (place_in others own)) (lookup (bytes_eq asked) names)) same))
+        (ap (place_in others) (sym (same_name asked own same)))
+    by asked false other =
+        subst (so asked) (sym (found_named asked own (place_in others own) names ∙ ap (λ b. cond b (Some (place_in others own)) (lookup (bytes_eq asked) names)) other)) (are asked)
 
 -- a call names what its name is
 names_its : (name other : List ℕ) (call : PhaseCall) → call_name call ≡ Some other → names_it name call ≡ bytes_eq name other

@@ -1,5 +1,5 @@
 -- The names of a trace, each with the region that its last malloc or memalign got, in the order in which they were first bound.
-use Rattle.std.specs.Prelude.{ℕ, List, [], ◌∷◌, Option, None, Some}
+use Rattle.std.specs.Prelude.{◌≡◌, ℕ, List, [], ◌∷◌, Option, None, Some, IfSome}
 use Rattle.std.specs.Map.{lookup}
 use Rattle.std.specs.Option.{unwrap_or}
 use Rattle.std.specs.Str.{bytes_eq}
@@ -24,6 +24,10 @@ named names name place = insert_entry bytes_eq names name place
 abbrev pub learnt : List (List ℕ × Place) → List (List ℕ × Place) → Option (List ℕ) → List (List ℕ × Place)
 learnt others names None = names
 learnt others names (Some name) = named names name (place_in others name)
+
+-- each of some names that is bound lies where it lies among others
+abbrev pub AreLearnt : List (List ℕ × Place) → List (List ℕ × Place) → Type 0
+AreLearnt others names = (name : List ℕ) → IfSome (lookup (bytes_eq name) names) (λ place. place ≡ place_in others name)
 
 -- the names with those bound that a worker bound in its phase
 abbrev pub merged : List (List ℕ × Place) → List (List ℕ × Place) → List (List ℕ × Place)

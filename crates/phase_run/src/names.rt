@@ -1,8 +1,10 @@
 //! Where the regions lie that a trace names.
 
-ghost use Rattle.std.specs.Prelude.{◌≡◌, [], IfOk, OnOk, OnErr};
+ghost use Rattle.std.specs.Prelude.{◌≡◌, [], is_some, IfOk, OnOk, OnErr};
+ghost use Rattle.std.specs.Map.{lookup};
+ghost use Rattle.std.specs.Str.{bytes_eq};
 ghost use Rattle.trace_phase.specs.Parts.{call_name};
-ghost use Rattle.phase_run.specs.Names.{known_to, learnt, merged, named, place_in};
+ghost use Rattle.phase_run.specs.Names.{AreLearnt, known_to, learnt, merged, named, place_in};
 ghost use Rattle.phase_run.specs.Walks.{AgreeOn};
 
 use indexmap::IndexMap;
@@ -66,13 +68,25 @@ impl Names {
         self.places.get(name).copied().unwrap_or(nowhere)
     }
 
-    /// Binds the name of a call, if it has one, to where its region lies among these names.
+    /// Whether a name is bound.
+    fn is_bound(&self, name: &Name) -> bool
+        ensures { result ≡ is_some (lookup (bytes_eq name.now) self.now) }
+    {
+        self.places.contains_key(name)
+    }
+
+    /// Binds the name of a call, if it has one, to where its region lies among these names. Those that are bound lie where they
+    /// lie there.
+    #[tactic(auto, using(crate::proofs::Places::learnt_before))]
     fn learn(&mut self, alloc: Global, names: &Names, call: &PhaseCall) -> Result<(), NoMemory>
+        requires { AreLearnt names.now self.old }
         ensures { OnOk result (self.new ≡ learnt names.now self.old (call_name call.now)) }
     {
         match call.name() {
-            Some(name) => self.bind(Name::new(alloc, name.as_bytes())?, names.place(name)),
-            None => Ok(()),
+            Some(name) if !self.is_bound(name) => {
+                self.bind(Name::new(alloc, name.as_bytes())?, names.place(name))
+            }
+            _ => Ok(()),
         }
     }
 

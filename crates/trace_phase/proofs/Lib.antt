@@ -1,3 +1,4 @@
 pub mod Added
 pub mod Fair
+pub mod Standings
 pub mod Within

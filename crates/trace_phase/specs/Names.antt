@@ -1,6 +1,7 @@
 -- The names of a trace: which client may say what of a name in a phase, by how the lines before left it.
 use Rattle.std.specs.Prelude.{ℕ, ◌==◌, Bool, true, false, not, nat_lt, ◌||◌, List, Option, None, Some}
-use Rattle.std.specs.Map.{lookup}
+use Rattle.std.specs.List.{position}
+use Rattle.std.specs.Map.{keys_of, lookup}
 use Rattle.std.specs.Str.{bytes_eq}
 use Rattle.indexmap.specs.IndexMap.{insert_entry}
 use Rattle.trace_phase.specs.declared.names.Standing.{Standing}
@@ -11,6 +12,10 @@ use Rattle.trace_phase.specs.declared.parts.PhaseCall.TheVariants.{Malloc, Memal
 -- how a name stands, if a line has named it
 abbrev pub standing_of : List (List ℕ × Standing) → List ℕ → Option Standing
 standing_of names name = lookup (bytes_eq name) names
+
+-- the place of a name among the names, if a line has named it
+abbrev pub place_of : List (List ℕ × Standing) → List ℕ → Option ℕ
+place_of names name = position (bytes_eq name) (keys_of names)
 
 -- the names where this one stands so
 abbrev pub with_standing : List (List ℕ × Standing) → List ℕ → Standing → List (List ℕ × Standing)

@@ -192,10 +192,9 @@ impl Course {
         let Some(call) = PhaseCall::from_verb(verb) else {
             return misplaced(number);
         };
-        if !self.names.allow(place, client, &call) {
+        if !self.names.take(alloc, place, client, &call)? {
             return misplaced(number);
         }
-        self.names.take(alloc, place, client, &call)?;
         current.phase.works.add(alloc, client, call)?;
         self.current = Some(current);
         Ok(())

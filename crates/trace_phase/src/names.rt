@@ -1,7 +1,7 @@
 //! How the lines so far left the names of a trace.
 
-ghost use Rattle.std.specs.Prelude.{◌≡◌, [], OnOk};
-ghost use Rattle.trace_phase.specs.Names.{call_stands, is_owner, may_bind, may_take, names_after, standing_of, with_standing};
+ghost use Rattle.std.specs.Prelude.{◌≡◌, [], IfOk, IsTrue, OnOk};
+ghost use Rattle.trace_phase.specs.Names.{call_stands, is_owner, may_bind, may_take, names_after, place_of, standing_of, with_standing};
 
 use crate::parts::PhaseCall;
 use indexmap::IndexMap;
@@ -33,6 +33,15 @@ impl Model for Names {
     ghost Value = { List (List ℕ × Standing) };
 
     ghost view = { λ n. n.standings.entries };
+}
+
+/// Where a name is among the names and how it stands, if a line has named it.
+#[derive(Clone, Copy, Debug, PartialEq, Eq)]
+struct Found {
+    /// Its place.
+    place: Option<usize>,
+    /// How it stands.
+    standing: Option<Standing>,
 }
 
 /// Whether a client may get a region in this phase and give it a name that stands so.
@@ -82,53 +91,96 @@ impl Names {
         }
     }
 
-    fn standing(&self, name: &Name) -> Option<Standing>
-        ensures { result ≡ standing_of self.now name.now }
+    /// Where a name is among the names, and how it stands.
+    fn find(&self, name: &Name) -> Found
+        ensures place { result.place ≡ place_of self.now name.now }
+        ensures standing { result.standing ≡ standing_of self.now name.now }
     {
-        self.standings.get(name).copied()
-    }
-
-    fn put(&mut self, alloc: Global, name: &Name, standing: Standing) -> Result<(), NoMemory>
-        ensures { OnOk result (self.new ≡ with_standing self.old name.now standing) }
-    {
-        let key = Name::new(alloc, name.as_bytes())?;
-        self.standings.insert(key, standing)?;
-        Ok(())
-    }
-
-    /// Whether a call of a client may stand in the phase at this place.
-    pub fn allow(&self, phase: usize, client: u32, call: &PhaseCall) -> bool
-        ensures { result ≡ call_stands phase client self.now call.now }
-    {
-        match call {
-            PhaseCall::Malloc { name, .. } | PhaseCall::Memalign { name, .. } => {
-                may_bind(phase, client, self.standing(name))
-            }
-            PhaseCall::Free(name) | PhaseCall::Publish(name) => {
-                is_owner(client, self.standing(name))
-            }
-            PhaseCall::Take(name) => may_take(phase, self.standing(name)),
-            PhaseCall::Flush | PhaseCall::Purge(_) | PhaseCall::Decay(_) => true,
+        match self.standings.get_full(name) {
+            Some((place, _, standing)) => Found {
+                place: Some(place),
+                standing: Some(*standing),
+            },
+            None => Found {
+                place: None,
+                standing: None,
+            },
         }
     }
 
-    /// Takes in a call of a client in the phase at this place.
+    /// Lets a name stand so from here on, where the place among the names is known.
+    fn put(
+        &mut self,
+        alloc: Global,
+        place: Option<usize>,
+        name: &Name,
+        standing: Standing,
+    ) -> Result<(), NoMemory>
+        requires { place ≡ place_of self.old name.now }
+        ensures { OnOk result (self.new ≡ with_standing self.old name.now standing) }
+    {
+        match place {
+            Some(place) => self.standings[place] = standing,
+            None => {
+                let key = Name::new(alloc, name.as_bytes())?;
+                self.standings.insert(key, standing)?;
+            }
+        }
+        Ok(())
+    }
+
+    /// Lets a name that was found stand so from here on, where it may, and tells whether it may.
+    fn put_if(
+        &mut self,
+        alloc: Global,
+        may: bool,
+        found: Found,
+        name: &Name,
+        standing: Standing,
+    ) -> Result<bool, NoMemory>
+        requires { found.place ≡ place_of self.old name.now }
+        ensures may { IfOk result (λ stands. stands ≡ may) }
+        ensures names { IfOk result (λ stands. IsTrue stands → self.new ≡ with_standing self.old name.now standing) }
+    {
+        if may {
+            self.put(alloc, found.place, name, standing)?;
+        }
+        Ok(may)
+    }
+
+    /// Takes in a call of a client in the phase at this place, if it may stand there, and tells whether it may.
     pub fn take(
         &mut self,
         alloc: Global,
         phase: usize,
         client: u32,
         call: &PhaseCall,
-    ) -> Result<(), NoMemory>
-        ensures { OnOk result (self.new ≡ names_after phase client self.old call.now) }
+    ) -> Result<bool, NoMemory>
+        ensures stands { IfOk result (λ stands. stands ≡ call_stands phase client self.old call.now) }
+        ensures names { IfOk result (λ stands. IsTrue stands → self.new ≡ names_after phase client self.old call.now) }
     {
         match call {
-            PhaseCall::Malloc { name, .. }
-            | PhaseCall::Memalign { name, .. }
-            | PhaseCall::Take(name) => self.put(alloc, name, Standing::Owned { client }),
-            PhaseCall::Free(name) => self.put(alloc, name, Standing::Freed { client, phase }),
-            PhaseCall::Publish(name) => self.put(alloc, name, Standing::Published { phase }),
-            PhaseCall::Flush | PhaseCall::Purge(_) | PhaseCall::Decay(_) => Ok(()),
+            PhaseCall::Malloc { name, .. } | PhaseCall::Memalign { name, .. } => {
+                let found = self.find(name);
+                let may = may_bind(phase, client, found.standing);
+                self.put_if(alloc, may, found, name, Standing::Owned { client })
+            }
+            PhaseCall::Free(name) => {
+                let found = self.find(name);
+                let may = is_owner(client, found.standing);
+                self.put_if(alloc, may, found, name, Standing::Freed { client, phase })
+            }
+            PhaseCall::Publish(name) => {
+                let found = self.find(name);
+                let may = is_owner(client, found.standing);
+                self.put_if(alloc, may, found, name, Standing::Published { phase })
+            }
+            PhaseCall::Take(name) => {
+                let found = self.find(name);
+                let may = may_take(phase, found.standing);
+                self.put_if(alloc, may, found, name, Standing::Owned { client })
+            }
+            PhaseCall::Flush | PhaseCall::Purge(_) | PhaseCall::Decay(_) => Ok(true),
         }
     }
 }
