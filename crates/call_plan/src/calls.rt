@@ -287,15 +287,15 @@ impl Stage {
         }
     }
 
-    /// What a client needs there, or the answer of its call. It is starved only where regions go back.
+    /// `need` becomes what a client needs there, or the answer of its call. It is starved only where regions go back.
     #[inline(always)]
-    fn needed(&self, alloc: Global, client: u32) -> Need
+    fn put_needed(&self, alloc: Global, client: u32, need: &mut Need)
         requires place { IsPointOrEnd self.now.next }
         requires sized { IsSizedNext self.now.next }
-        ensures need { NeedIs client self.now.arena self.now.next result }
-        ensures few { HasFewAddresses self.now.next → IsFed result }
+        ensures need { NeedIs client self.now.arena self.now.next need.new }
+        ensures few { HasFewAddresses self.now.next → IsFed need.new }
     {
-        match (&self.lead, &self.heard) {
+        *need = match (&self.lead, &self.heard) {
             (Lead::Turns(point), _) => match point.op(alloc) {
                 Ok(op) => turn(self.arena, client, op),
                 Err(_) => Need::Starved,
@@ -308,30 +308,31 @@ impl Stage {
             }
             (Lead::Ends(answer), _) => Need::Done(*answer),
             _ => unreachable!(),
-        }
+        };
     }
 
-    /// What a client needs there, with the regions named that go back, or the answer of its call. Where memory is wanting to name
-    /// them it is starved.
+    /// `need` becomes what a client needs there, with the regions named that go back, or the answer of its call. Where memory is
+    /// wanting to name them it is starved.
     #[inline(always)]
-    pub(crate) fn need(
+    pub(crate) fn put_need(
         &mut self,
         alloc: Global,
         request: &Request,
         desk: &Desk,
         client: u32,
-    ) -> Need
+        need: &mut Need,
+    )
         requires place { IsPointOrEnd self.old.next }
         requires sized { IsSizedNext self.old.next }
-        ensures need { NeedIs client self.old.arena (named request.now desk.now.facts self.old).next result }
-        ensures few { IsFewAddresses desk.now.facts self.old.next → IsFed result }
+        ensures need { NeedIs client self.old.arena (named request.now desk.now.facts self.old).next need.new }
+        ensures few { IsFewAddresses desk.now.facts self.old.next → IsFed need.new }
         ensures named { named request.now desk.now.facts self.new ≡ named request.now desk.now.facts self.old }
         ensures place { IsPointOrEnd self.new.next }
         ensures sized { IsSizedNext self.new.next }
     {
         match self.name(alloc, request, desk) {
-            Ok(()) => self.needed(alloc, client),
-            Err(_) => Need::Starved,
+            Ok(()) => self.put_needed(alloc, client, need),
+            Err(_) => *need = Need::Starved,
         }
     }
 
@@ -407,15 +408,17 @@ impl Call {
         Ok(None)
     }
 
-    /// What the call needs next, or its answer, with its client's desk, which is as the call left it but for held regions that
-    /// others were given since. The regions that go back next are named by it. Where memory is wanting for that it is starved, and
-    /// stands as it did: that turn then finds no memory.
-    pub fn need(&mut self, alloc: Global, desk: &Desk) -> Need
-        ensures need { NeedIs self.old.client self.old.stage.arena (named_call desk.now.facts self.old).stage.next result }
-        ensures few { IsFewAddresses desk.now.facts self.old.stage.next → IsFed result }
+    /// `need` becomes what the call needs next, or its answer, with its client's desk, which is as the call left it but for held
+    /// regions that others were given since. The regions that go back next are named by it. Where memory is wanting for that it is
+    /// starved, and stands as it did: that turn then finds no memory.
+    #[inline(always)]
+    pub fn put_need(&mut self, alloc: Global, desk: &Desk, need: &mut Need)
+        ensures need { NeedIs self.old.client self.old.stage.arena (named_call desk.now.facts self.old).stage.next need.new }
+        ensures few { IsFewAddresses desk.now.facts self.old.stage.next → IsFed need.new }
         ensures named { named_call desk.now.facts self.new ≡ named_call desk.now.facts self.old }
     {
-        self.stage.need(alloc, &self.request, desk, self.client)
+        self.stage
+            .put_need(alloc, &self.request, desk, self.client, need);
     }
 
     /// The ask whose answer the turn carries that it needs next, where it carries one.

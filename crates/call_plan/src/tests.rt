@@ -76,11 +76,13 @@ impl Play {
         requires { IsSizedNext self.old.stage.next }
         ensures { IsSizedNext self.new.stage.next }
     {
-        if waits(&self.stage) {
-            Some(self.stage.need(self.alloc, &self.request, &self.desk, 1))
-        } else {
-            None
+        if !waits(&self.stage) {
+            return None;
         }
+        let mut need = Need::Starved;
+        let (request, desk) = (&self.request, &self.desk);
+        self.stage.put_need(self.alloc, request, desk, 1, &mut need);
+        Some(need)
     }
 
     /// It is fed an item, and its need was as the script says, or it wasn't.

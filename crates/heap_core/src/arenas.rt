@@ -135,7 +135,7 @@ impl Arenas {
         ensures { IfOk result (λ arenas. arenas ≡ opening_records) }
     {
         let journals = Vec::with_capacity(alloc, ARENAS as usize)?;
-        let mut records = Vec::new(alloc);
+        let mut records = Vec::with_capacity(alloc, ARENAS as usize)?;
         for index in 0..ARENAS {
             records.push(Recorded::new(alloc, index)?)?;
         }

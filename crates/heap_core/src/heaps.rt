@@ -139,7 +139,7 @@ impl Heap {
     pub fn new(alloc: Global) -> Result<Heap, NoMemory>
         ensures { IfOk result (λ heap. heap ≡ opening_heap) }
     {
-        let mut clients = Vec::new(alloc);
+        let mut clients = Vec::with_capacity(alloc, CLIENTS as usize)?;
         while clients.len() < CLIENTS as usize {
             clients.push(Client::new(alloc)?)?;
         }

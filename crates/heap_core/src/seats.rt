@@ -89,18 +89,19 @@ impl Client {
         self.desk.lose(addr);
     }
 
-    /// What its open call needs next, if it has one, with the regions named that go back. It is starved where there is no memory
-    /// to name them, and nothing has changed then either.
+    /// `need` becomes what its open call needs next, with the regions named that go back. Gives false where it has none. It is
+    /// starved where there is no memory to name them, and nothing has changed then either.
     #[inline(always)]
-    pub fn need(&mut self, alloc: Global) -> Option<Need>
+    pub fn put_need(&mut self, alloc: Global, need: &mut Need) -> bool
         ensures same { self.new ≡ self.old }
-        ensures none { IfNone result (self.old.call ≡ None) }
-        ensures some { IfSome result (λ need. Needs self.old.call need) }
+        ensures none { result ≡ false → self.old.call ≡ None }
+        ensures some { result ≡ true → Needs self.old.call need.new }
     {
         let Some(call) = &mut self.call else {
-            return None;
+            return false;
         };
-        Some(call.need(alloc, &self.desk))
+        call.put_need(alloc, &self.desk, need);
+        true
     }
 
     /// The ask whose answer the turn carries that its open call needs, where it carries one.

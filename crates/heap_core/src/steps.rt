@@ -68,17 +68,17 @@ fn item_of<'a>(made: Result<(), NoMemory>, reply: &'a Reply) -> Item<'a>
 }
 
 impl Heap {
-    /// What the open call of a client needs next, if it has one, with the regions named that go back. It is starved where there is
-    /// no memory to name them. Nothing changes.
+    /// `need` becomes what the open call of a client needs next, with the regions named that go back. Gives false where it has
+    /// none. It is starved where there is no memory to name them. Nothing else changes.
     #[inline(always)]
-    fn need(&mut self, alloc: Global, client: u32) -> Option<Need>
+    fn put_need(&mut self, alloc: Global, client: u32, need: &mut Need) -> bool
         requires { client < 32 }
         ensures same { self.new ≡ self.old }
-        ensures none { IfNone result ((seat_at self.old.seats client).call ≡ None) }
-        ensures some { IfSome result (λ need. Needs (seat_at self.old.seats client).call need) }
+        ensures none { result ≡ false → (seat_at self.old.seats client).call ≡ None }
+        ensures some { result ≡ true → Needs (seat_at self.old.seats client).call need.new }
     {
         self.arenas.are_apart();
-        self.clients[client as usize].need(alloc)
+        self.clients[client as usize].put_need(alloc, need)
     }
 
     /// The client that holds the region which a client's call takes over next to free it, with that region.
@@ -250,12 +250,16 @@ impl Heap {
         ensures sure { IsSure self.old client (seat_at self.old.seats client).call self.new }
     {
         self.stands();
-        match self.need(alloc, client) {
-            None => told.go_on(Did::Idle),
-            Some(Need::Ask { arena, ask }) => self.ask(alloc, client, arena, ask, shelf, told),
-            Some(Need::Turn(mut turn)) => self.turn_for(alloc, &mut turn, told),
-            Some(Need::Starved) => self.starve(alloc, client, told),
-            Some(Need::Done(_)) => unreachable!(),
+        let mut need = Need::Starved;
+        if !self.put_need(alloc, client, &mut need) {
+            told.go_on(Did::Idle);
+            return;
+        }
+        match &mut need {
+            Need::Ask { arena, ask } => self.ask(alloc, client, *arena, *ask, shelf, told),
+            Need::Turn(turn) => self.turn_for(alloc, turn, told),
+            Need::Starved => self.starve(alloc, client, told),
+            Need::Done(_) => unreachable!(),
         }
     }
 }

@@ -114,7 +114,9 @@ impl SharedHeap {
         ensures stands { Stands self.now ctx.new call.new }
         ensures steps { (last : Option (ℕ × ℕ)) → HasBox (named_call ctx.old.desk.facts call.old).stage last box_no → Steps shelf.now self.now ctx.old ctx.new (moment_at call.old ctx.old.desk.facts) last (moment_at call.new ctx.new.desk.facts) result }
     {
-        match call.need(alloc, &ctx.desk) {
+        let mut need = Need::Starved;
+        call.put_need(alloc, &ctx.desk, &mut need);
+        match need {
             Need::Turn(turn) => self.turn(rt, alloc, shelf, ctx, call, turn, box_no),
             Need::Ask { ask, .. } => {
                 self.ask(rt, alloc, shelf, ctx, call, ask, box_no);

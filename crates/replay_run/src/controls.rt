@@ -100,6 +100,7 @@ impl Controls {
     }
 
     /// Takes the counts of all arenas as they are now.
+    #[inline(never)]
     fn refresh(&mut self, heap: &Heap)
         ensures { self.new ≡ refreshed heap.now.records self.old }
     {

@@ -1,6 +1,6 @@
 use Rattle.call_plan.proofs.Words.{subst, sym, IsSizedNext, Stage}
 use Rattle.call_plan.proofs.Naming.{named_sized}
-use Rattle.call_plan.proofs.calls.Stage.need.Goals as goal
+use Rattle.call_plan.proofs.calls.Stage.put_need.Goals as goal
 
 pub returns-in-Ok-clause-sized : goal.returns-in-Ok-clause-sized
 returns-in-Ok-clause-sized c =
