@@ -7,7 +7,7 @@ ghost use Rattle.thread_cache.specs.Caches.{is_in_arena};
 ghost use Rattle.call_plan.specs.Clients.{caching, has_cache, swapped_back, swapping, with_new_cache, discarding, empty_handed, freed_hand, freeing, gain_held, gaining, has_slot, held_again, held_at, hit, hitting, holding, is_cacheable, kept, not_holding, reclassing, resizing};
 
 use cache_set::CacheSet;
-use indexmap::IndexMap;
+use region_table::RegionTable;
 use size_classes::{CACHED_CLASSES, slots};
 use std::alloc::{AllocError as NoMemory, Global};
 use std::marker::Model;
@@ -36,7 +36,7 @@ pub struct Desk {
     arena: u32,
     caches: bool,
     pub(crate) cache: Cache,
-    held: IndexMap<u64, Held>,
+    held: RegionTable,
     pub(crate) hand: Option<Held>,
     gained: Option<Held>,
     set: CacheSet,
@@ -45,7 +45,6 @@ pub struct Desk {
 
 impl Model for Desk {
     ghost use Rattle.call_plan.specs.Clients.{DeskSeen};
-    ghost use Rattle.indexmap.specs.IndexMap.{spare};
 
     ghost Value = { DeskSeen };
 
@@ -54,13 +53,13 @@ impl Model for Desk {
         arena = d.arena;
         caches = d.caches;
         cached = d.cache;
-        held = d.held.entries;
+        held = d.held.held;
         hand = d.hand;
         gained = d.gained;
         set = d.set;
         swapped = d.swapped;
       };
-      room = spare d.held;
+      room = d.held.room;
     } };
 }
 
@@ -73,7 +72,7 @@ impl Desk {
             arena: 0,
             caches: false,
             cache: Cache::new(alloc)?,
-            held: IndexMap::new(alloc),
+            held: RegionTable::new(alloc),
             hand: None,
             gained: None,
             set: CacheSet::new(alloc),
@@ -114,7 +113,7 @@ impl Desk {
     pub fn held_at(&self, addr: u64) -> Option<Held>
         ensures { result ≡ held_at addr self.now.facts }
     {
-        self.held.get(&addr).copied()
+        self.held.get(addr)
     }
 
     /// Makes room for two more held regions.
@@ -122,7 +121,7 @@ impl Desk {
         ensures facts { self.new.facts ≡ self.old.facts }
         ensures ok { OnOk result (2 ≤ self.new.room) }
     {
-        self.held.reserve(2)
+        self.held.reserve()
     }
 
     /// It allocates from an arena from now on.
@@ -148,7 +147,7 @@ impl Desk {
         ensures facts { self.new.facts ≡ holding region self.old.facts }
         ensures room { self.old.room ≤ self.new.room + 1 }
     {
-        let _known = self.held.insert(region.addr, region).unwrap();
+        self.held.put(region);
     }
 
     /// It holds no region at the address any more.
@@ -157,7 +156,7 @@ impl Desk {
         ensures facts { self.new.facts ≡ not_holding addr self.old.facts }
         ensures room { self.old.room ≤ self.new.room }
     {
-        let _lost = self.held.swap_remove(&addr);
+        self.held.remove(addr);
     }
 
     /// It holds no region of an arena any more.
@@ -165,7 +164,7 @@ impl Desk {
         ensures facts { self.new.facts ≡ discarding arena self.old.facts }
         ensures room { self.old.room ≤ self.new.room }
     {
-        self.held.retain(|_, region| region.arena != arena);
+        self.held.discard(arena);
     }
 
     /// A region is in hand from now on.
