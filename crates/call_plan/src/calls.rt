@@ -51,60 +51,6 @@ fn copied(alloc: Global, addrs: &Addresses) -> Result<Addresses, NoMemory>
     Ok(Addresses::new(list))
 }
 
-impl TurnPoint {
-    /// The operation of the turn. `NoMemory` where there is none to name the regions that go back.
-    fn op(&self, alloc: Global) -> Result<Op, NoMemory>
-        requires { IsSizedTurn self.now }
-        ensures op { IfOk result (λ op. op ≡ op_at self.now) }
-        ensures few { HasFewAddresses (Go (Turns self.now)) → IsOk result }
-        ensures giving { OnErr result (IsGiving (Go (Turns self.now))) }
-    {
-        Ok(match self {
-            TurnPoint::Filling(wish, count) => Op::Fill {
-                class: wish.class,
-                count: *count,
-            },
-            TurnPoint::Looking(wish) => Op::Look {
-                pages: wish.pages,
-                align: wish.align,
-            },
-            TurnPoint::Landing(wish, span) => Op::Land {
-                span: *span,
-                class: wish.class,
-                count: wish.count,
-            },
-            TurnPoint::Giving(addrs) => {
-                let addrs = copied(alloc, addrs)?;
-                Op::Back { addrs }
-            }
-            TurnPoint::Finding { own, tries, .. } => Op::PutLook {
-                span: *own,
-                tries: *tries,
-            },
-            TurnPoint::Taking(visit, _) => Op::PurgeTake {
-                rest: visit.rest,
-                keep: visit.keep,
-            },
-            TurnPoint::Offering(span, _) => Op::Offer { span: *span },
-            TurnPoint::Advancing(now) => Op::Advance { now: *now },
-            TurnPoint::Changing(setting, _) | TurnPoint::Making(_, setting) => Op::Set(*setting),
-            TurnPoint::Resetting(cached) => Op::Reset { cached: *cached },
-            TurnPoint::Destroying(cached) => Op::Destroy { cached: *cached },
-            TurnPoint::Dooming => Op::DestroyTake,
-            TurnPoint::Publishing(addr) => Op::Publish { addr: *addr },
-            TurnPoint::Owning { addr, .. } => Op::TakeOver { addr: *addr },
-            TurnPoint::Widening(resize) => Op::Widen {
-                addr: resize.addr,
-                pages: class_pages(resize.class),
-            },
-            TurnPoint::Narrowing(resize) => Op::Trim {
-                addr: resize.addr,
-                class: resize.class,
-            },
-        })
-    }
-}
-
 /// A turn of an arena.
 fn turn(arena: u32, client: u32, op: Op) -> Need
     ensures { result ≡ Need.Turn (record { arena = arena; client = client; op = op }) }
@@ -117,6 +63,75 @@ fn ask(arena: u32, ask: Ask) -> Need
     ensures { result ≡ Need.Ask arena ask }
 {
     Need::Ask { arena, ask }
+}
+
+impl TurnPoint {
+    /// `need` becomes the turn of the point, written where it stands, or starved where there is no memory to name the regions
+    /// that go back.
+    fn put_op(&self, alloc: Global, arena: u32, client: u32, need: &mut Need)
+        requires { IsSizedTurn self.now }
+        ensures need { NeedIs client arena (Go (Turns self.now)) need.new }
+        ensures few { HasFewAddresses (Go (Turns self.now)) → IsFed need.new }
+    {
+        match self {
+            TurnPoint::Giving(addrs) => match copied(alloc, addrs) {
+                Ok(addrs) => *need = turn(arena, client, Op::Back { addrs }),
+                Err(_) => *need = Need::Starved,
+            },
+            TurnPoint::Filling(wish, count) => {
+                let (class, count) = (wish.class, *count);
+                *need = turn(arena, client, Op::Fill { class, count });
+            }
+            TurnPoint::Looking(wish) => {
+                let (pages, align) = (wish.pages, wish.align);
+                *need = turn(arena, client, Op::Look { pages, align });
+            }
+            TurnPoint::Landing(wish, span) => {
+                let (span, class, count) = (*span, wish.class, wish.count);
+                *need = turn(arena, client, Op::Land { span, class, count });
+            }
+            TurnPoint::Finding { own, tries, .. } => {
+                let (span, tries) = (*own, *tries);
+                *need = turn(arena, client, Op::PutLook { span, tries });
+            }
+            TurnPoint::Taking(visit, _) => {
+                let (rest, keep) = (visit.rest, visit.keep);
+                *need = turn(arena, client, Op::PurgeTake { rest, keep });
+            }
+            TurnPoint::Offering(span, _) => {
+                *need = turn(arena, client, Op::Offer { span: *span });
+            }
+            TurnPoint::Advancing(now) => {
+                *need = turn(arena, client, Op::Advance { now: *now });
+            }
+            TurnPoint::Changing(setting, _) | TurnPoint::Making(_, setting) => {
+                *need = turn(arena, client, Op::Set(*setting));
+            }
+            TurnPoint::Resetting(cached) => {
+                *need = turn(arena, client, Op::Reset { cached: *cached });
+            }
+            TurnPoint::Destroying(cached) => {
+                *need = turn(arena, client, Op::Destroy { cached: *cached });
+            }
+            TurnPoint::Dooming => {
+                *need = turn(arena, client, Op::DestroyTake);
+            }
+            TurnPoint::Publishing(addr) => {
+                *need = turn(arena, client, Op::Publish { addr: *addr });
+            }
+            TurnPoint::Owning { addr, .. } => {
+                *need = turn(arena, client, Op::TakeOver { addr: *addr });
+            }
+            TurnPoint::Widening(resize) => {
+                let (addr, pages) = (resize.addr, class_pages(resize.class));
+                *need = turn(arena, client, Op::Widen { addr, pages });
+            }
+            TurnPoint::Narrowing(resize) => {
+                let (addr, class) = (resize.addr, resize.class);
+                *need = turn(arena, client, Op::Trim { addr, class });
+            }
+        }
+    }
 }
 
 impl Request {
@@ -295,20 +310,17 @@ impl Stage {
         ensures need { NeedIs client self.now.arena self.now.next need.new }
         ensures few { HasFewAddresses self.now.next → IsFed need.new }
     {
-        *need = match (&self.lead, &self.heard) {
-            (Lead::Turns(point), _) => match point.op(alloc) {
-                Ok(op) => turn(self.arena, client, op),
-                Err(_) => Need::Starved,
-            },
-            (Lead::Asks(point), None) => ask(self.arena, point.ask()),
-            (Lead::Asks(point), Some(asked)) => turn(self.arena, client, point.done(asked)),
+        match (&self.lead, &self.heard) {
+            (Lead::Turns(point), _) => point.put_op(alloc, self.arena, client, need),
+            (Lead::Asks(point), None) => *need = ask(self.arena, point.ask()),
+            (Lead::Asks(point), Some(asked)) => *need = turn(self.arena, client, point.done(asked)),
             (Lead::Tells(span, committed), _) => {
                 let (span, committed) = (*span, *committed);
-                ask(self.arena, Ask::Destroy { span, committed })
+                *need = ask(self.arena, Ask::Destroy { span, committed });
             }
-            (Lead::Ends(answer), _) => Need::Done(*answer),
+            (Lead::Ends(answer), _) => *need = Need::Done(*answer),
             _ => unreachable!(),
-        };
+        }
     }
 
     /// `need` becomes what a client needs there, with the regions named that go back, or the answer of its call. Where memory is
