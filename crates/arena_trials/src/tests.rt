@@ -30,7 +30,7 @@ fn after(rt: &impl Abort, alloc: Global, script: &str) -> Trial {
 #[test]
 fn scripts_are_followed(rt: HostRuntime) {
     for script in rows::ALL {
-        after(&rt, rt.alloc(), script);
+        drop(after(&rt, rt.alloc(), script));
     }
 }
 
@@ -43,19 +43,23 @@ fn holds_a_chunk(rt: &impl Abort, arena: &Arena) {
 
 #[test]
 fn an_arena_tells_what_it_holds(rt: HostRuntime) {
-    holds_a_chunk(&rt, after(&rt, rt.alloc(), rows::GRANTED).arena());
+    let trial = after(&rt, rt.alloc(), rows::GRANTED);
+    holds_a_chunk(&rt, trial.arena());
+    drop(trial);
 }
 
 /// Checks the box, the limit and the times of an arena as a script made it.
 fn was_made(rt: &impl Abort, arena: &Arena) {
     assert_eq!(rt; arena.life(), Life::Live);
-    assert_eq!(rt; (arena.box_no(), arena.grow_limit()), (7, 16384));
-    assert_eq!(rt; arena.times(), (-1, 5000));
+    assert!(rt; arena.box_no() == 7 && arena.grow_limit() == 16384);
+    assert!(rt; arena.times() == (-1, 5000));
 }
 
 #[test]
 fn an_arena_tells_how_it_was_made(rt: HostRuntime) {
-    was_made(&rt, after(&rt, rt.alloc(), rows::MADE).arena());
+    let trial = after(&rt, rt.alloc(), rows::MADE);
+    was_made(&rt, trial.arena());
+    drop(trial);
 }
 
 #[test]
@@ -71,5 +75,6 @@ fn random_operations_are_carried_out_as_by_scans(rt: HostRuntime) {
 fn operations_stand_as_by_scans(rt: HostRuntime) {
     let mut trial = Trial::of_first(&rt, rt.alloc());
     let stood = asks::ask_on(&rt, rt.alloc(), &mut trial, 3, 3000);
+    drop(trial);
     assert!(rt; stood >= 800, "{stood} may stand");
 }

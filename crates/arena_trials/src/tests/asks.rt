@@ -2,26 +2,20 @@
 //! name spans, addresses, clients and classes that aren't there.
 
 use super::draws::{drawn, some_large};
-use super::ops::{FIVE_CLASS, FOUR_CLASS, SLAB_CLASS, addresses_of, merged};
+use super::ops::{FIVE_CLASS, FOUR_CLASS, SLAB_CLASS, addresses_of, merged, next_state};
 use super::trials::Trial;
 use space_model::{Answer, Ask, Heard, Op, Reply, Rest, Setting, Span};
 use std::alloc::Global;
 use std::process::Abort;
 
 /// The span, or one that is a page longer or a page higher.
-fn near(span: Span, number: u64) -> Span {
-    let (first, pages) = (span.first, span.pages);
+fn near(mut span: Span, number: u64) -> Span {
     match number % 6 {
-        0 => Span {
-            first,
-            pages: pages.saturating_add(1),
-        },
-        1 => Span {
-            first: first.saturating_add(1),
-            pages,
-        },
-        _ => span,
+        0 => span.pages = span.pages.saturating_add(1),
+        1 => span.first = span.first.saturating_add(1),
+        _ => {}
     }
+    span
 }
 
 /// One answer of the three kinds.
@@ -207,10 +201,7 @@ pub(crate) fn ask_on(
     let mut state = seed;
     let mut stood: u64 = 0;
     for turn in 0..turns {
-        // A linear congruential generator, of which the high bits are taken.
-        state = (state ^ turn)
-            .wrapping_mul(6364136223846793005)
-            .wrapping_add(1442695040888963407);
+        state = next_state(state ^ turn);
         let client = (state >> 60) as u32 % 3;
         let flight = trial.flight(client);
         let op = drawn(alloc, trial.space(), client, state >> 30, flight);

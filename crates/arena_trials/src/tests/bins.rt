@@ -1,10 +1,24 @@
 //! Many regions are taken and put back, and many slabs come and go.
 use bin_book::BinBook;
 use size_classes::{Addrs, class_pages, slab_regions};
+use std::alloc::Global;
 use std::process::Abort;
-use std::test::Fail;
 
 mod plain;
+
+// A book with places for so many slabs.
+fn book_of(rt: &impl Abort, alloc: Global, places: u64) -> BinBook {
+    let mut book = BinBook::new(alloc);
+    book.reserve(places).expect(rt, "memory for places");
+    book
+}
+
+// A list with room for so many addresses.
+fn list_of(rt: &impl Abort, alloc: Global, room: u64) -> Addrs {
+    let mut list = Addrs::new(alloc);
+    list.reserve(room).expect(rt, "memory for addresses");
+    list
+}
 
 // Adds a slab with so many regions out, held by client 0, where it has a place and meets no other.
 fn add_slab(book: &mut BinBook, class: u8, first: u64, count: u32) -> bool {
@@ -61,13 +75,9 @@ fn take_and_put_back(rt: &impl Abort, book: &mut BinBook, out: &mut Addrs) {
 }
 
 #[test]
-fn many_regions_are_taken_and_put_back(rt: HostRuntime) -> Result<(), Fail> {
-    let mut book = BinBook::new(rt.alloc());
-    book.reserve(2048)?;
-    let mut out = Addrs::new(rt.alloc());
-    out.reserve(1 << 20)?;
-    take_and_put_back(&rt, &mut book, &mut out);
-    Ok(())
+fn many_regions_are_taken_and_put_back(rt: HostRuntime) {
+    let mut book = book_of(&rt, rt.alloc(), 2048);
+    take_and_put_back(&rt, &mut book, &mut list_of(&rt, rt.alloc(), 1 << 20));
 }
 
 // Fills a book with slabs of two regions, of which one is out, and empties it.
@@ -86,11 +96,9 @@ fn come_and_go(rt: &impl Abort, book: &mut BinBook, out: &mut Addrs) {
 }
 
 #[test]
-fn many_slabs_come_and_go(rt: HostRuntime) -> Result<(), Fail> {
-    let mut book = BinBook::new(rt.alloc());
-    book.reserve(1 << 18)?;
+fn many_slabs_come_and_go(rt: HostRuntime) {
+    let mut book = book_of(&rt, rt.alloc(), 1 << 18);
     come_and_go(&rt, &mut book, &mut Addrs::new(rt.alloc()));
-    Ok(())
 }
 
 // Slabs come and go whose inner pages have no number, and one at a high page.
@@ -106,11 +114,8 @@ fn come_and_go_alone(rt: &impl Abort, book: &mut BinBook) {
 }
 
 #[test]
-fn a_page_without_a_number_is_found(rt: HostRuntime) -> Result<(), Fail> {
-    let mut book = BinBook::new(rt.alloc());
-    book.reserve(1)?;
-    come_and_go_alone(&rt, &mut book);
-    Ok(())
+fn a_page_without_a_number_is_found(rt: HostRuntime) {
+    come_and_go_alone(&rt, &mut book_of(&rt, rt.alloc(), 1));
 }
 
 // Hands the region at an address over, if one begins there. Whether one does.
@@ -160,13 +165,14 @@ fn are_handed_over(rt: &impl Abort, book: &mut BinBook, out: &mut Addrs) {
     assert!(rt; book.at(first).is_none());
 }
 
+// Regions are taken, and handed over.
+fn have_their_holders(rt: &impl Abort, book: &mut BinBook, out: &mut Addrs) {
+    are_taken(rt, book, out);
+    are_handed_over(rt, book, out);
+}
+
 #[test]
-fn each_region_has_its_holder(rt: HostRuntime) -> Result<(), Fail> {
-    let mut book = BinBook::new(rt.alloc());
-    book.reserve(2)?;
-    let mut out = Addrs::new(rt.alloc());
-    out.reserve(3)?;
-    are_taken(&rt, &mut book, &mut out);
-    are_handed_over(&rt, &mut book, &mut out);
-    Ok(())
+fn each_region_has_its_holder(rt: HostRuntime) {
+    let mut book = book_of(&rt, rt.alloc(), 2);
+    have_their_holders(&rt, &mut book, &mut list_of(&rt, rt.alloc(), 3));
 }

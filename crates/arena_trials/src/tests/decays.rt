@@ -4,13 +4,12 @@ ghost use Rattle.std.specs.Prelude.{◌≡◌, ◌≤◌, true};
 ghost use Rattle.space_model.specs.Settings.{is_decay_time};
 ghost use Rattle.space_model.specs.Sound.{Sound};
 
-use super::ops::{addresses_of, grown};
+use super::ops::{addresses_of, grown, look, next_state};
 use decay_curve::Decay;
 use plain_machine::{may_stand, plain_counts, plain_step};
 use space_model::{Entry, Op, Reply, Setting, Space, Span};
 use std::alloc::Global;
 use std::process::Abort;
-use std::test::Fail;
 
 /// The class of 2 MiB, which is a chunk.
 const CHUNK_CLASS: u8 = 64;
@@ -41,17 +40,10 @@ fn soil(rt: &impl Abort, alloc: Global, space: &mut Space, chunk: u64)
         pages: 512,
     };
     let class = CHUNK_CLASS;
+    let count = 1;
     let addrs = addresses_of(alloc, 4096 * span.first, 4096 * span.first);
     turn(rt, space, grown(span.first, true));
-    turn(
-        rt,
-        space,
-        Op::Land {
-            span,
-            class,
-            count: 1,
-        },
-    );
+    turn(rt, space, Op::Land { span, class, count });
     turn(rt, space, Op::Back { addrs });
     turn(rt, space, Op::PutLook { span, tries: 2 });
 }
@@ -85,13 +77,9 @@ fn plain_limit(rt: &impl Abort, space: &mut Space, now: u64) -> Option<u64>
     ensures { Sound space.new }
 {
     let reply = turn(rt, space, Op::Advance { now });
-    assert!(rt;
-        matches!(reply, Some(Reply::Limits { .. })),
-        "an arena that is live tells limits"
-    );
     match reply {
         Some(Reply::Limits { dirty, .. }) => dirty,
-        _ => None,
+        _ => panic!(rt; "an arena that is live tells limits"),
     }
 }
 
@@ -126,14 +114,7 @@ fn random_change(
             turn(rt, space, Op::Set(Setting::DirtyMs { ms, now }));
         }
         1..6 => {
-            turn(
-                rt,
-                space,
-                Op::Look {
-                    pages: 512,
-                    align: 1,
-                },
-            );
+            turn(rt, space, look(512));
         }
         6..12 => soil(rt, alloc, space, number / 16 % 4000 + 1),
         _ => {}
@@ -154,10 +135,7 @@ fn moments_come(
     let mut now: u64 = 0;
     let mut told: u64 = 0;
     for round in 0..rounds {
-        // A linear congruential generator, of which the high bits are taken.
-        state = (state ^ round)
-            .wrapping_mul(6364136223846793005)
-            .wrapping_add(1442695040888963407);
+        state = next_state(state ^ round);
         random_change(rt, alloc, space, decay, state >> 20, now);
         now = some_moment(state >> 23, now);
         told = told.saturating_add(u64::from(same_limit(rt, space, decay, now)));
@@ -166,11 +144,11 @@ fn moments_come(
 }
 
 #[test]
-fn limits_are_those_of_the_slow_machine(rt: HostRuntime) -> Result<(), Fail> {
+fn limits_are_those_of_the_slow_machine(rt: HostRuntime) {
     let alloc = rt.alloc();
     let mut space = Space::first(alloc);
-    let mut decay = Decay::new(alloc, 10000, 0)?;
+    let mut decay = Decay::new(alloc, 10000, 0).expect(&rt, "memory for a decay");
     let told = moments_come(&rt, alloc, &mut space, &mut decay, 1200);
+    drop((space, decay));
     assert!(rt; told > 200, "{told} told");
-    Ok(())
 }

@@ -1,7 +1,8 @@
 //! Random operations, which a seed chooses.
 
 use super::ops::{
-    CHUNK, FIVE_CLASS, FOUR_CLASS, SLAB_CLASS, addresses_of, committed, cut, grown, merged,
+    CHUNK, FIVE_CLASS, FOUR_CLASS, SLAB_CLASS, addresses_of, committed, cut, grown, look, merged,
+    next_state,
 };
 use super::trials::Trial;
 use space_model::{Answer, Ask, Heard, Op, Reply, Rest, Setting, Space, Span};
@@ -61,10 +62,7 @@ fn heard(number: u64, ask: Ask) -> Heard {
 fn some_op(alloc: Global, number: u64, flight: Span, addr: u64) -> Op {
     let answer = some_answer(number);
     match number / 8 % 12 {
-        0 | 1 => Op::Look {
-            pages: number / 64 % 12 + 1,
-            align: 1,
-        },
+        0 | 1 => look(number / 64 % 12 + 1),
         2 => grown(512 * (1 + number / 64 % 8), number % 2 == 0),
         3 => cut(flight, 5, number % 3 != 0, answer),
         4 => committed(flight, answer),
@@ -235,10 +233,7 @@ fn take_turns(rt: &impl Abort, alloc: Global, trial: &mut Trial, seed: u64, turn
     let mut state = seed;
     let mut stood: u64 = 0;
     for turn in 0..turns {
-        // A linear congruential generator, of which the high bits are taken.
-        state = (state ^ turn)
-            .wrapping_mul(6364136223846793005)
-            .wrapping_add(1442695040888963407);
+        state = next_state(state ^ turn);
         let client = (state >> 60) as u32 % 3;
         let told = take_turn(rt, alloc, trial, client, state >> 30);
         stood = stood.saturating_add(u64::from(told));
@@ -252,5 +247,7 @@ fn take_turns(rt: &impl Abort, alloc: Global, trial: &mut Trial, seed: u64, turn
 /// 70000 random operations in a new arena, which a seed chooses. The answer is how many stood.
 pub(crate) fn turns_of(rt: &impl Abort, alloc: Global, seed: u64) -> u64 {
     let mut trial = Trial::of_first(rt, alloc);
-    take_turns(rt, alloc, &mut trial, seed, 70000)
+    let stood = take_turns(rt, alloc, &mut trial, seed, 70000);
+    drop(trial);
+    stood
 }

@@ -19,6 +19,18 @@ pub const CHUNK: Span = Span {
     pages: 512,
 };
 
+/// The next state of a linear congruential generator, of which the high bits are taken.
+pub(crate) fn next_state(state: u64) -> u64 {
+    state
+        .wrapping_mul(6364136223846793005)
+        .wrapping_add(1442695040888963407)
+}
+
+/// A look for so many pages.
+pub(crate) fn look(pages: u64) -> Op {
+    Op::Look { pages, align: 1 }
+}
+
 /// The range of 512 pages that came from a page on.
 pub(crate) fn grown(first: u64, committed: bool) -> Op {
     let ask = Ask::Alloc {

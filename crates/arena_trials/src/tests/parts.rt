@@ -3,11 +3,18 @@ ghost use Rattle.std.specs.Prelude.{◌≡◌};
 
 use part_book::PartBook;
 use space_model::{Part, Rest, Span, State};
+use std::alloc::Global;
 use std::process::Abort;
-use std::test::Fail;
 
 // `rt try`, which checks each access, takes far longer for so many than its minute.
 const MANY: u64 = 1 << 20;
+
+// A book with places for so many extents.
+fn book_of(rt: &impl Abort, alloc: Global, places: u64) -> PartBook {
+    let mut book = PartBook::new(alloc).expect(rt, "memory for a book");
+    book.reserve(places).expect(rt, "memory for places");
+    book
+}
 
 fn dirty(first: u64, pages: u64) -> Part
     ensures { result.span ≡ record { first = first; pages = pages } }
@@ -88,11 +95,8 @@ fn fill(rt: &impl Abort, book: &mut PartBook) {
 }
 
 #[test]
-fn a_large_book_is_not_scanned(rt: HostRuntime) -> Result<(), Fail> {
-    let mut book = PartBook::new(rt.alloc())?;
-    book.reserve(MANY)?;
-    fill(&rt, &mut book);
-    Ok(())
+fn a_large_book_is_not_scanned(rt: HostRuntime) {
+    fill(&rt, &mut book_of(&rt, rt.alloc(), MANY));
 }
 
 // Cuts the first page off an extent, where it has another one and there is a place. That page comes first or last.
@@ -128,11 +132,8 @@ fn all_come_and_go(rt: &impl Abort, book: &mut PartBook) {
 }
 
 #[test]
-fn extents_come_and_go(rt: HostRuntime) -> Result<(), Fail> {
-    let mut book = PartBook::new(rt.alloc())?;
-    book.reserve(MANY)?;
-    all_come_and_go(&rt, &mut book);
-    Ok(())
+fn extents_come_and_go(rt: HostRuntime) {
+    all_come_and_go(&rt, &mut book_of(&rt, rt.alloc(), MANY));
 }
 
 // Whether two extents of one page that begin side by side are joined by their pages, and cut again by the first one's.
@@ -187,12 +188,14 @@ fn goes_by_page(book: &mut PartBook, page: u64, both: bool) -> bool {
     added && cut && leaves_by_page(book, next) && leaves_by_page(book, page) && book.is_empty()
 }
 
+// Extents go by their pages from a book, in both ways of a cut.
+fn all_go_by_page(rt: &impl Abort, book: &mut PartBook) {
+    assert!(rt; goes_by_page(book, 600, true));
+    book.reserve(8).expect(rt, "memory for places");
+    assert!(rt; goes_by_page(book, 700, false));
+}
+
 #[test]
-fn extents_are_changed_by_their_pages(rt: HostRuntime) -> Result<(), Fail> {
-    let mut book = PartBook::new(rt.alloc())?;
-    book.reserve(8)?;
-    assert!(rt; goes_by_page(&mut book, 600, true));
-    book.reserve(8)?;
-    assert!(rt; goes_by_page(&mut book, 700, false));
-    Ok(())
+fn extents_are_changed_by_their_pages(rt: HostRuntime) {
+    all_go_by_page(&rt, &mut book_of(&rt, rt.alloc(), 8));
 }

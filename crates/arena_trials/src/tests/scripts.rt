@@ -33,7 +33,7 @@ fn seen(alloc: Global, space: &Space, text: &str) -> Option<Result<String, NoMem
 
 /// The reply to the entry of a line.
 fn replied(rt: &impl Abort, alloc: Global, trial: &mut Trial, text: &str) -> Option<Reply> {
-    let Entry { client, op } = entry(alloc, text).expect(rt, "an entry");
+    let Entry { client, op } = entry(rt, alloc, text);
     trial.attempt(rt, client, op)
 }
 

@@ -1,10 +1,10 @@
 //! A book beside a plain list of all regions of its slabs.
 ghost use Rattle.std.specs.Prelude.{◌<◌};
 
+use crate::tests::ops::next_state;
 use bin_book::BinBook;
-use size_classes::{Addrs, size_of, slab_regions};
-use std::alloc::AllocError as NoMemory;
-use std::test::Fail;
+use size_classes::{size_of, slab_regions};
+use std::process::Abort;
 
 // Classes with 4, 16 and 2 regions a slab, of 1, 5 and 7 pages.
 const CLASSES: [u8; 3] = [20, 21, 35];
@@ -19,7 +19,7 @@ struct Place {
 }
 
 // Adds the regions of a slab behind those of lower slabs. The lowest, so many, are out.
-fn add(list: &mut Vec<Place>, class: u8, first: u64, count: u64) -> Result<(), NoMemory>
+fn add(rt: &impl Abort, list: &mut Vec<Place>, class: u8, first: u64, count: u64)
     requires { class < 36 }
 {
     let below = list.iter().filter(|place| place.first < first).count();
@@ -33,9 +33,8 @@ fn add(list: &mut Vec<Place>, class: u8, first: u64, count: u64) -> Result<(), N
             is_out: region < count,
         };
         let at = below.saturating_add(region as usize).min(list.len());
-        list.insert(at, place)?;
+        list.insert(at, place).expect(rt, "memory for a region");
     }
-    Ok(())
 }
 
 // Takes the lowest free region of a class.
@@ -60,33 +59,36 @@ fn put_back(list: &mut Vec<Place>, addr: u64, first: u64) -> bool {
 }
 
 // A slab comes to both, where none has its first page. Whether both say the same.
-fn slab_comes(book: &mut BinBook, list: &mut Vec<Place>, number: u64) -> Result<bool, NoMemory> {
+fn slab_comes(rt: &impl Abort, book: &mut BinBook, list: &mut Vec<Place>, number: u64) -> bool {
     let class = CLASSES[(number % 3) as usize];
     let first = 512 + 8 * (number / 3 % 8);
     let count = 1 + number / 24 % 2;
     let comes = super::add_slab(book, class, first, count as u32);
-    if comes == list.iter().any(|place| place.first == first) {
-        return Ok(false);
+    let stands = list.iter().any(|place| place.first == first);
+    if comes && !stands && class < 36 {
+        add(rt, list, class, first, count);
     }
-    if comes && class < 36 {
-        add(list, class, first, count)?;
+    comes != stands
+}
+
+// Takes the lowest free regions of a class. Whether these are their addresses.
+fn go_lowest(list: &mut Vec<Place>, class: u8, addrs: &[u64]) -> bool {
+    for addr in addrs {
+        if take_lowest(list, class) != Some(*addr) {
+            return false;
+        }
     }
-    Ok(true)
+    true
 }
 
 // The lowest free regions of a class are taken from both, up to seven, and are the same.
-fn regions_go(book: &mut BinBook, list: &mut Vec<Place>, number: u64) -> Result<bool, NoMemory> {
+fn regions_go(rt: &impl Abort, book: &mut BinBook, list: &mut Vec<Place>, number: u64) -> bool {
     let class = CLASSES[(number % 3) as usize];
     let count = (number / 3 % 8) as u32;
-    let mut out = Addrs::new(*list.allocator());
-    out.reserve(u64::from(count))?;
+    let mut out = super::list_of(rt, *list.allocator(), u64::from(count));
     let taken = super::take(book, class, count, &mut out);
-    for addr in out.as_slice() {
-        if take_lowest(list, class) != Some(*addr) {
-            return Ok(false);
-        }
-    }
-    Ok(taken && (out.len() == count as usize || take_lowest(list, class).is_none()))
+    let same = go_lowest(list, class, out.as_slice());
+    taken && same && (out.len() == count as usize || take_lowest(list, class).is_none())
 }
 
 // A region is put back into both, where it is out.
@@ -102,31 +104,33 @@ fn region_comes(book: &mut BinBook, list: &mut Vec<Place>, number: u64) -> bool 
     }
 }
 
-// What a number chooses happens to both. Whether both say the same, and have the same regions out then.
-fn turn(book: &mut BinBook, list: &mut Vec<Place>, number: u64) -> Result<bool, NoMemory> {
-    let same = match number % 4 {
-        0 => slab_comes(book, list, number / 4)?,
-        1 => regions_go(book, list, number / 4)?,
+// What a number chooses happens to both. Whether both say the same.
+fn change(rt: &impl Abort, book: &mut BinBook, list: &mut Vec<Place>, number: u64) -> bool {
+    match number % 4 {
+        0 => slab_comes(rt, book, list, number / 4),
+        1 => regions_go(rt, book, list, number / 4),
         _ => region_comes(book, list, number / 4),
-    };
-    Ok(
-        same && list
-            .iter()
-            .all(|place| book.at(place.addr).is_some() == place.is_out),
-    )
+    }
+}
+
+// Whether both have the same regions out.
+fn same_are_out(book: &BinBook, list: &[Place]) -> bool {
+    list.iter()
+        .all(|place| book.at(place.addr).is_some() == place.is_out)
+}
+
+// So many changes happen to both, and after each they have the same regions out.
+fn all_change(rt: &impl Abort, book: &mut BinBook, list: &mut Vec<Place>) {
+    let mut state = 1u64;
+    for step in 0..600 {
+        state = next_state(state);
+        let same = change(rt, book, list, state >> 30) && same_are_out(book, list.as_slice());
+        assert!(rt; same, "{step}");
+    }
 }
 
 #[test]
-fn a_plain_list_says_the_same(rt: HostRuntime) -> Result<(), Fail> {
-    let mut book = BinBook::new(rt.alloc());
-    book.reserve(8)?;
-    let mut list = Vec::new(rt.alloc());
-    let mut state = 1u64;
-    for step in 0..600 {
-        state = state
-            .wrapping_mul(6364136223846793005)
-            .wrapping_add(1442695040888963407);
-        assert!(rt; turn(&mut book, &mut list, state >> 30)?, "{step}");
-    }
-    Ok(())
+fn a_plain_list_says_the_same(rt: HostRuntime) {
+    let mut book = super::book_of(&rt, rt.alloc(), 8);
+    all_change(&rt, &mut book, &mut Vec::new(rt.alloc()));
 }
