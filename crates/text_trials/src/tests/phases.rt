@@ -4,61 +4,65 @@ use space_model::Seq;
 use std::alloc::Global;
 use std::fmt::Write;
 use std::process::Abort;
-use std::test::Fail;
-use trace_phase::{Lines, NumberedLine, Part, Phase, PhaseCause, PhaseFault, Phases};
-use trace_text::{LineFault, read};
+use trace_phase::{NumberedLine, Part, Phase, PhaseCause, PhaseFault, Phases, Work};
+use trace_text::read;
 
-/// Why the lines of a text are no phases.
-type Checked = Result<Phases, PhaseFault>;
-
-/// The lines of a text, by their numbers.
-fn lines_of(alloc: Global, text: &str) -> Result<Lines, LineFault> {
+/// What the lines of a text, which a slash parts, come to.
+fn checked(rt: &impl Abort, alloc: Global, text: &str) -> Result<Phases, PhaseFault> {
     let mut lines = Seq::new(alloc);
-    for (before, line) in text.as_bytes().split(|byte| *byte == b'\n').enumerate() {
+    for (before, line) in text.split("/").enumerate() {
         let number = (before as u64).saturating_add(1);
-        let line = read(alloc, line)?;
-        lines.push(NumberedLine { number, line })?;
+        let line = read(alloc, line.as_bytes()).expect(rt, "a line");
+        let numbered = NumberedLine { number, line };
+        lines.push(numbered).expect(rt, "memory for a line");
     }
-    Ok(lines)
+    Phases::check(alloc, lines)
 }
 
-/// What the lines of a text come to.
-fn checked(alloc: Global, text: &str) -> Result<Checked, Fail> {
-    Ok(Phases::check(alloc, lines_of(alloc, text)?))
+/// Writes a client and its calls.
+fn write_work(rt: &impl Abort, out: &mut String, work: &Work) {
+    write!(out, " t{}", work.client).expect(rt, "memory for a client");
+    for call in work.calls.as_slice() {
+        write!(out, " {call:?}").expect(rt, "memory for a call");
+    }
 }
 
 /// Writes a phase: its moment, its rounds, and the calls of each client.
-fn write_phase(out: &mut String, phase: &Phase) -> Result<(), Fail> {
-    write!(out, "phase at {} rounds {}", phase.moment, phase.rounds)?;
+fn write_phase(rt: &impl Abort, out: &mut String, phase: &Phase) {
+    let (moment, rounds) = (phase.moment, phase.rounds);
+    write!(out, "phase at {moment} rounds {rounds}").expect(rt, "memory for a phase");
     for work in phase.works.as_slice() {
-        write!(out, " t{}", work.client)?;
-        for call in work.calls.as_slice() {
-            write!(out, " {call:?}")?;
-        }
+        write_work(rt, out, work);
     }
-    Ok(())
+}
+
+/// Writes the parts and the number of clients.
+fn write_phases(rt: &impl Abort, out: &mut String, phases: &Phases) {
+    let memory = "memory for a part";
+    for part in phases.parts.as_slice() {
+        match part {
+            Part::Setting(setting) => write!(out, "{setting:?}").expect(rt, memory),
+            Part::Phase(phase) => write_phase(rt, out, phase),
+        }
+        out.push_str("\n").expect(rt, memory);
+    }
+    write!(out, "clients {}", phases.clients).expect(rt, memory);
 }
 
 /// Checks what the lines of a text come to, by the texts of the parts and the number of clients.
-fn come_to(rt: &impl Abort, alloc: Global, text: &str, want: &str) -> Result<(), Fail> {
-    let phases = checked(alloc, text)?.map_err(|_| "no phases")?;
+fn come_to(rt: &impl Abort, alloc: Global, text: &str, want: &str) {
+    let phases = checked(rt, alloc, text).expect(rt, "phases");
     let mut told = String::new(alloc);
-    for part in phases.parts.as_slice() {
-        match part {
-            Part::Setting(setting) => write!(told, "{setting:?}")?,
-            Part::Phase(phase) => write_phase(&mut told, phase)?,
-        }
-        told.push_str("\n")?;
-    }
-    write!(told, "clients {}", phases.clients)?;
+    write_phases(rt, &mut told, &phases);
     assert_eq!(rt; told.as_str(), want);
-    Ok(())
+    drop(told);
+    drop(phases);
 }
 
 #[test]
-fn settings_and_phases_are_told(rt: HostRuntime) -> Result<(), Fail> {
+fn settings_and_phases_are_told(rt: HostRuntime) {
     let text =
-        "# a comment\nt0 create 1\nat 5\nt3 dirty 0 -1\nrefuse 1 alloc 2\nt4 arena 1\nt4 cache on\nphase\nt2 malloc a 20000\nt0 memalign b 64 3\nt2 publish a\n\nt0 flush\njoin\nphase\nt0 take a\nt0 free a\nt1 purge 0\nt1 decay 7\njoin\nat 9\nphase background 3\njoin";
+        "# a comment/t0 create 1/at 5/t3 dirty 0 -1/refuse 1 alloc 2/t4 arena 1/t4 cache on/phase/t2 malloc a 20000/t0 memalign b 64 3/t2 publish a//t0 flush/join/phase/t0 take a/t0 free a/t1 purge 0/t1 decay 7/join/at 9/phase background 3/join";
     let want = "Call { client: 0, moment: 0, call: Create(1) }
 Call { client: 3, moment: 5, call: Time { arena: 0, rest: Dirty, ms: -1 } }
 Refuse { box_no: 1, kind: Alloc, nth: 2 }
@@ -68,104 +72,73 @@ phase at 5 rounds 0 t2 Malloc { name: \"a\", size: 20000 } Publish(\"a\") t0 Mem
 phase at 5 rounds 0 t0 Take(\"a\") Free(\"a\") t1 Purge(0) Decay(7)
 phase at 9 rounds 3
 clients 6";
-    come_to(&rt, rt.alloc(), text, want)
+    come_to(&rt, rt.alloc(), text, want);
 }
 
-/// Checks that a line is told as the first that can't stand.
-fn is_bad(
-    rt: &impl Abort,
-    alloc: Global,
-    text: &str,
-    line: u64,
-    cause: PhaseCause,
-) -> Result<(), Fail> {
-    match checked(alloc, text)? {
-        Ok(_) => panic!(rt; "no line of {text:?} is bad"),
-        Err(fault) => assert_eq!(rt; fault, PhaseFault::At { line, cause }, "in {text:?}"),
+/// Checks that a line is told as the first that can't stand: its number stands before the text.
+fn is_bad(rt: &impl Abort, alloc: Global, row: &str, cause: PhaseCause) {
+    let (number, text) = row.split_once(" ").expect(rt, "a number and a text");
+    let line = number.parse().expect(rt, "a number");
+    let fault = checked(rt, alloc, text).err();
+    assert_eq!(rt; fault, Some(PhaseFault::At { line, cause }), "in {text:?}");
+}
+
+/// Checks of each of these rows that its line is told as the first that can't stand.
+fn are_bad(rt: &impl Abort, alloc: Global, rows: &str, cause: PhaseCause) {
+    for row in rows.lines() {
+        is_bad(rt, alloc, row, cause);
     }
-    Ok(())
 }
 
 #[test]
-fn the_first_bad_line_is_told(rt: HostRuntime) -> Result<(), Fail> {
-    let table = [
-        (
-            "phase\nt0 malloc a 20000\nt1 free a\njoin",
-            3,
-            PhaseCause::Phase,
-        ),
-        ("phase\nt0 flush", 1, PhaseCause::NotJoined),
-        ("phase\nphase", 2, PhaseCause::Phase),
-        ("join", 1, PhaseCause::Phase),
-        ("t0 malloc a 1", 1, PhaseCause::Phase),
-        ("counts 0", 1, PhaseCause::Phase),
-        ("t0 step", 1, PhaseCause::Phase),
-        ("at 5\nphase\nat 3", 3, PhaseCause::Clock),
-        ("at 5\nphase\nat 5", 3, PhaseCause::Phase),
-        ("at 5\nat 4\nphase", 2, PhaseCause::Clock),
-        ("phase\nt0 create 1", 2, PhaseCause::Phase),
-        ("phase\nt0 free @200000", 2, PhaseCause::Phase),
-        ("phase\nt0 call flush", 2, PhaseCause::Phase),
-        ("phase\nt0 free a", 2, PhaseCause::Phase),
-        ("phase\nrefuse 0 alloc 1", 2, PhaseCause::Phase),
-        ("phase\nt0 malloc a 1\nt0 realloc a 2", 3, PhaseCause::Phase),
-        ("phase\nt0 mallocx a 1 0", 2, PhaseCause::Phase),
-        ("phase\nt0 malloc a 1\nt0 freex a 0", 3, PhaseCause::Phase),
-        ("t0 realloc a 2", 1, PhaseCause::Phase),
-        ("t0 mallocx a 1 0", 1, PhaseCause::Phase),
-        ("t0 freex a 0", 1, PhaseCause::Phase),
-    ];
-    for (text, line, cause) in table {
-        is_bad(&rt, rt.alloc(), text, line, cause)?;
-    }
-    Ok(())
+fn the_first_bad_line_is_told(rt: HostRuntime) {
+    let clocks = "3 at 5/phase/at 3\n2 at 5/at 4/phase";
+    are_bad(&rt, rt.alloc(), clocks, PhaseCause::Clock);
+    are_bad(&rt, rt.alloc(), "1 phase/t0 flush", PhaseCause::NotJoined);
+    let phases = "3 phase/t0 malloc a 20000/t1 free a/join
+2 phase/phase
+1 join
+1 t0 malloc a 1
+1 counts 0
+1 t0 step
+3 at 5/phase/at 5
+2 phase/t0 create 1
+2 phase/t0 free @200000
+2 phase/t0 call flush
+2 phase/t0 free a
+2 phase/refuse 0 alloc 1
+3 phase/t0 malloc a 1/t0 realloc a 2
+2 phase/t0 mallocx a 1 0
+3 phase/t0 malloc a 1/t0 freex a 0
+1 t0 realloc a 2
+1 t0 mallocx a 1 0
+1 t0 freex a 0";
+    are_bad(&rt, rt.alloc(), phases, PhaseCause::Phase);
 }
 
 #[test]
-fn names_are_used_by_one_client_in_a_phase(rt: HostRuntime) -> Result<(), Fail> {
-    let table = [
-        // A freed name is another client's in a later phase, and not in the same one.
-        ("phase\nt0 malloc a 1\nt0 free a\nt1 malloc a 1", 4),
-        (
-            "phase\nt0 malloc a 1\nt0 free a\njoin\nphase\nt1 malloc a 1\nt0 free a",
-            7,
-        ),
-        (
-            "phase\nt0 malloc a 1\nt0 free a\nt0 malloc a 1\nt0 free a\nt0 free a",
-            6,
-        ),
-        // A published name waits for a take in a later phase, and nothing else stands of it.
-        ("phase\nt0 malloc a 1\nt0 publish a\nt1 take a", 4),
-        ("phase\nt0 malloc a 1\nt0 publish a\nt0 malloc a 1", 4),
-        (
-            "phase\nt0 malloc a 1\nt0 publish a\njoin\nphase\nt0 malloc a 1",
-            6,
-        ),
-        (
-            "phase\nt0 malloc a 1\nt0 publish a\njoin\nphase\nt1 take a\nt2 take a",
-            7,
-        ),
-        (
-            "phase\nt0 malloc a 1\nt0 malloc a 2\njoin\nphase\nt1 memalign a 8 1",
-            6,
-        ),
-    ];
-    for (text, line) in table {
-        is_bad(&rt, rt.alloc(), text, line, PhaseCause::Phase)?;
-    }
-    Ok(())
+fn names_are_used_by_one_client_in_a_phase(rt: HostRuntime) {
+    // A freed name is another client's in a later phase, and not in the same one.
+    let freed = "4 phase/t0 malloc a 1/t0 free a/t1 malloc a 1
+7 phase/t0 malloc a 1/t0 free a/join/phase/t1 malloc a 1/t0 free a
+6 phase/t0 malloc a 1/t0 free a/t0 malloc a 1/t0 free a/t0 free a";
+    are_bad(&rt, rt.alloc(), freed, PhaseCause::Phase);
+    // A published name waits for a take in a later phase, and nothing else stands of it.
+    let published = "4 phase/t0 malloc a 1/t0 publish a/t1 take a
+4 phase/t0 malloc a 1/t0 publish a/t0 malloc a 1
+6 phase/t0 malloc a 1/t0 publish a/join/phase/t0 malloc a 1
+7 phase/t0 malloc a 1/t0 publish a/join/phase/t1 take a/t2 take a
+6 phase/t0 malloc a 1/t0 malloc a 2/join/phase/t1 memalign a 8 1";
+    are_bad(&rt, rt.alloc(), published, PhaseCause::Phase);
 }
 
 #[test]
-fn client_31_is_the_worker_in_the_background(rt: HostRuntime) -> Result<(), Fail> {
-    let alloc = rt.alloc();
-    let after = "phase background 1\njoin\nt31 arena 0";
-    is_bad(&rt, alloc, after, 3, PhaseCause::Phase)?;
-    let within = "phase background 1\nt31 flush";
-    is_bad(&rt, alloc, within, 2, PhaseCause::Phase)?;
-    let before = "t31 arena 0\nphase\njoin\nphase background 1";
-    is_bad(&rt, alloc, before, 4, PhaseCause::Phase)?;
-    let twice = "phase background 1\nt0 flush\njoin\nphase background 1000\njoin";
+fn client_31_is_the_worker_in_the_background(rt: HostRuntime) {
+    let within = "3 phase background 1/join/t31 arena 0
+2 phase background 1/t31 flush
+4 t31 arena 0/phase/join/phase background 1";
+    are_bad(&rt, rt.alloc(), within, PhaseCause::Phase);
+    let twice = "phase background 1/t0 flush/join/phase background 1000/join";
     let want = "phase at 0 rounds 1 t0 Flush\nphase at 0 rounds 1000\nclients 2";
-    come_to(&rt, alloc, twice, want)
+    come_to(&rt, rt.alloc(), twice, want);
 }

@@ -8,7 +8,6 @@ use report_text::{
 use space_model::{Answer, Ask, Counts, Span, Why};
 use std::alloc::Global;
 use std::process::Abort;
-use std::test::Fail;
 
 /// The first chunk.
 const CHUNK: Span = Span {
@@ -16,26 +15,17 @@ const CHUNK: Span = Span {
     pages: 512,
 };
 
-/// Checks the line of a call of client 7.
-fn prints(
-    rt: &impl Abort,
-    alloc: Global,
-    head: Head,
-    answered: Answered,
-    want: &str,
-) -> Result<(), Fail> {
-    let mut line = Vec::new(alloc);
-    call_line(&mut line, 7, head, &answered)?;
-    assert_eq!(rt; line.as_slice(), want.as_bytes());
-    Ok(())
+/// Checks what was printed, and gives it up.
+fn reads(rt: &impl Abort, lines: Vec<u8>, want: &str) {
+    assert_eq!(rt; lines.as_slice(), want.as_bytes());
+    drop(lines);
 }
 
-/// Checks the line of a bad line.
-fn prints_cause(rt: &impl Abort, alloc: Global, cause: Cause, want: &str) -> Result<(), Fail> {
+/// Checks the line of a call of client 7.
+fn prints(rt: &impl Abort, alloc: Global, head: Head, answered: Answered, want: &str) {
     let mut line = Vec::new(alloc);
-    bad_line(&mut line, 2, cause)?;
-    assert_eq!(rt; line.as_slice(), want.as_bytes());
-    Ok(())
+    call_line(&mut line, 7, head, &answered).expect(rt, "memory for a line");
+    reads(rt, line, want);
 }
 
 /// The answer to a chunk that a hook placed at this page.
@@ -52,19 +42,27 @@ fn region() -> Answered {
     })
 }
 
-#[test]
-fn prints_regions(rt: HostRuntime) -> Result<(), Fail> {
-    let alloc = rt.alloc();
-    let want = "t7 malloc a_1 @200000 20480\n";
-    prints(&rt, alloc, Head::Malloc(b"a_1"), region(), want)?;
-    let long = Head::Memalign(b"a_name_of_three_and_thirty_bytes_");
-    let want = "t7 memalign a_name_of_three_and_thirty_bytes_ @200000 20480\n";
-    prints(&rt, alloc, long, region(), want)?;
-    prints(&rt, alloc, Head::Take, region(), "t7 take ok\n")
+/// The answer of the limits of an arena.
+fn limits() -> Answered {
+    Answered::Ok(Given::Limits {
+        dirty: Some(2),
+        muzzy: None,
+    })
 }
 
 #[test]
-fn prints_the_first_word_of_each_call(rt: HostRuntime) -> Result<(), Fail> {
+fn prints_regions(rt: HostRuntime) {
+    let alloc = rt.alloc();
+    let want = "t7 malloc a_1 @200000 20480\n";
+    prints(&rt, alloc, Head::Malloc(b"a_1"), region(), want);
+    let long = Head::Memalign(b"a_name_of_three_and_thirty_bytes_");
+    let want = "t7 memalign a_name_of_three_and_thirty_bytes_ @200000 20480\n";
+    prints(&rt, alloc, long, region(), want);
+    prints(&rt, alloc, Head::Take, region(), "t7 take ok\n");
+}
+
+#[test]
+fn prints_the_first_word_of_each_call(rt: HostRuntime) {
     let heads = [
         (Head::Free, "t7 free ok\n"),
         (Head::Publish, "t7 publish ok\n"),
@@ -81,123 +79,108 @@ fn prints_the_first_word_of_each_call(rt: HostRuntime) -> Result<(), Fail> {
         (Head::Flush, "t7 flush ok\n"),
     ];
     for (head, want) in heads {
-        prints(&rt, rt.alloc(), head, Answered::Ok(Given::Done), want)?;
+        prints(&rt, rt.alloc(), head, Answered::Ok(Given::Done), want);
     }
-    Ok(())
 }
 
 #[test]
-fn prints_bad_answers(rt: HostRuntime) -> Result<(), Fail> {
+fn prints_bad_answers(rt: HostRuntime) {
     let alloc = rt.alloc();
     let off = bad(u64::MAX, Why::OffSpace);
     let far = "t7 memalign b bad answer @ffffffffffffffff000+512 off space\n";
-    prints(&rt, alloc, Head::Memalign(b"b"), off, far)?;
+    prints(&rt, alloc, Head::Memalign(b"b"), off, far);
     let crooked = bad(513, Why::Unaligned);
     let between = "t7 malloc a bad answer @201000+512 unaligned\n";
-    prints(&rt, alloc, Head::Malloc(b"a"), crooked, between)?;
+    prints(&rt, alloc, Head::Malloc(b"a"), crooked, between);
     let met = bad(512, Why::Meets(CHUNK));
     let meets = "t7 malloc a bad answer @200000+512 meets @200000+512\n";
-    prints(&rt, alloc, Head::Malloc(b"a"), met, meets)
+    prints(&rt, alloc, Head::Malloc(b"a"), met, meets);
 }
 
 #[test]
-fn prints_other_answers(rt: HostRuntime) -> Result<(), Fail> {
+fn prints_other_answers(rt: HostRuntime) {
     let alloc = rt.alloc();
-    let limits = Answered::Ok(Given::Limits {
-        dirty: Some(2),
-        muzzy: None,
-    });
-    prints(
-        &rt,
-        alloc,
-        Head::Decay,
-        limits,
-        "t7 decay dirty 2 muzzy -\n",
-    )?;
+    let want = "t7 decay dirty 2 muzzy -\n";
+    prints(&rt, alloc, Head::Decay, limits(), want);
     let busy = Answered::Busy {
         held: 1,
         flights: 2,
         threads: 3,
     };
-    prints(
-        &rt,
-        alloc,
-        Head::Reset,
-        busy,
-        "t7 reset busy held 1 flights 2 threads 3\n",
-    )?;
-    prints(
-        &rt,
-        alloc,
-        Head::Free,
-        Answered::NotHeld(0x20_5008),
-        "t7 free not held @205008\n",
-    )
+    let want = "t7 reset busy held 1 flights 2 threads 3\n";
+    prints(&rt, alloc, Head::Reset, busy, want);
+    let (unheld, want) = (Answered::NotHeld(0x20_5008), "t7 free not held @205008\n");
+    prints(&rt, alloc, Head::Free, unheld, want);
 }
 
 #[test]
-fn prints_why_nothing_was_done(rt: HostRuntime) -> Result<(), Fail> {
+fn prints_why_nothing_was_done(rt: HostRuntime) {
     let alloc = rt.alloc();
     let memalign = Head::Memalign(b"a");
     let (large, align) = (Answered::TooLarge, Answered::BadAlign);
-    prints(&rt, alloc, memalign, large, "t7 memalign a too large\n")?;
-    prints(&rt, alloc, memalign, align, "t7 memalign a bad alignment\n")?;
+    prints(&rt, alloc, memalign, large, "t7 memalign a too large\n");
+    prints(&rt, alloc, memalign, align, "t7 memalign a bad alignment\n");
     let (gone, full) = (Answered::NoArena(40), Answered::ArenasFull);
-    prints(&rt, alloc, Head::Purge, gone, "t7 purge no arena 40\n")?;
-    prints(&rt, alloc, Head::Create, full, "t7 create arenas full\n")?;
+    prints(&rt, alloc, Head::Purge, gone, "t7 purge no arena 40\n");
+    prints(&rt, alloc, Head::Create, full, "t7 create arenas full\n");
     let (first, made) = (Answered::Automatic, Answered::Ok(Given::Arena(31)));
-    prints(&rt, alloc, Head::Reset, first, "t7 reset automatic arena\n")?;
-    prints(&rt, alloc, Head::Create, made, "t7 create 31\n")
+    prints(&rt, alloc, Head::Reset, first, "t7 reset automatic arena\n");
+    prints(&rt, alloc, Head::Create, made, "t7 create 31\n");
 }
 
 #[test]
-fn prints_calls_of_controls(rt: HostRuntime) -> Result<(), Fail> {
-    let limits = Answered::Ok(Given::Limits {
-        dirty: Some(2),
-        muzzy: None,
-    });
+fn prints_calls_of_controls(rt: HostRuntime) {
     let decay = Head::Ctl(b"arena.0.decay");
     let decayed = "t7 ctl arena.0.decay dirty 2 muzzy -\n";
-    prints(&rt, rt.alloc(), decay, limits, decayed)
+    prints(&rt, rt.alloc(), decay, limits(), decayed);
 }
 
 #[test]
-fn prints_no_limits_of_all_arenas(rt: HostRuntime) -> Result<(), Fail> {
-    let limits = Answered::Ok(Given::Limits {
-        dirty: Some(2),
-        muzzy: None,
-    });
+fn prints_no_limits_of_all_arenas(rt: HostRuntime) {
     let all = Head::CtlDone(b"arena.4096.decay");
-    prints(&rt, rt.alloc(), all, limits, "t7 ctl arena.4096.decay ok\n")
+    prints(
+        &rt,
+        rt.alloc(),
+        all,
+        limits(),
+        "t7 ctl arena.4096.decay ok\n",
+    );
 }
 
 #[test]
-fn prints_writes_of_controls(rt: HostRuntime) -> Result<(), Fail> {
+fn prints_writes_of_controls(rt: HostRuntime) {
     let alloc = rt.alloc();
     let create = Head::Ctl(b"arenas.create");
     let made = Answered::Ok(Given::Arena(2));
-    prints(&rt, alloc, create, made, "t7 ctl arenas.create 2\n")?;
+    prints(&rt, alloc, create, made, "t7 ctl arenas.create 2\n");
     let bind = Head::CtlDone(b"thread.arena");
     let bound = Answered::Ok(Given::Done);
-    prints(&rt, alloc, bind, bound, "t7 ctl thread.arena ok\n")?;
+    prints(&rt, alloc, bind, bound, "t7 ctl thread.arena ok\n");
     let limit = Head::CtlDone(b"arena.31.retain_grow_limit.and.more");
     let long = "t7 ctl arena.31.retain_grow_limit.and.more ok\n";
-    prints(&rt, alloc, limit, Answered::Ok(Given::Done), long)
+    prints(&rt, alloc, limit, Answered::Ok(Given::Done), long);
 }
 
 #[test]
-fn prints_refused_calls_of_controls(rt: HostRuntime) -> Result<(), Fail> {
+fn prints_refused_calls_of_controls(rt: HostRuntime) {
     let alloc = rt.alloc();
     let bind = Head::CtlDone(b"thread.arena");
     let unbound = "t7 ctl thread.arena EFAULT no arena 40\n";
-    prints(&rt, alloc, bind, Answered::NoArena(40), unbound)?;
+    prints(&rt, alloc, bind, Answered::NoArena(40), unbound);
     let reset = Head::Ctl(b"arena.0.reset");
     let automatic = "t7 ctl arena.0.reset EFAULT automatic arena\n";
-    prints(&rt, alloc, reset, Answered::Automatic, automatic)
+    prints(&rt, alloc, reset, Answered::Automatic, automatic);
+}
+
+/// Checks the line of a control of client 3.
+fn prints_answer(rt: &impl Abort, alloc: Global, answer: &CtlAnswer, want: &str) {
+    let mut line = Vec::new(alloc);
+    ctl_line(&mut line, 3, b"epoch", answer).expect(rt, "memory for a line");
+    reads(rt, line, want);
 }
 
 #[test]
-fn prints_answers_of_controls(rt: HostRuntime) -> Result<(), Fail> {
+fn prints_answers_of_controls(rt: HostRuntime) {
     let answers = [
         (CtlAnswer::Done, "t3 ctl epoch ok\n"),
         (CtlAnswer::Number(4096), "t3 ctl epoch 4096\n"),
@@ -211,16 +194,12 @@ fn prints_answers_of_controls(rt: HostRuntime) -> Result<(), Fail> {
         (CtlAnswer::Gone(40), "t3 ctl epoch EFAULT no arena 40\n"),
     ];
     for (answer, want) in answers {
-        let mut line = Vec::new(rt.alloc());
-        ctl_line(&mut line, 3, b"epoch", &answer)?;
-        assert_eq!(rt; line.as_slice(), want.as_bytes());
+        prints_answer(&rt, rt.alloc(), &answer, want);
     }
-    Ok(())
 }
 
-#[test]
-fn prints_steps(rt: HostRuntime) -> Result<(), Fail> {
-    let mut lines = Vec::new(rt.alloc());
+/// Prints the lines of two asks, of a turn and of an idle client.
+fn print_steps(rt: &impl Abort, lines: &mut Vec<u8>) {
     let placed = Answer::Placed {
         first: 1024,
         committed: true,
@@ -232,17 +211,30 @@ fn prints_steps(rt: HostRuntime) -> Result<(), Fail> {
         align: 512,
         commit: false,
     };
-    ask_line(&mut lines, 3, alloc, placed)?;
-    ask_line(&mut lines, 3, Ask::Commit(CHUNK), Answer::Refused)?;
-    turn_line(&mut lines, 0)?;
-    idle_line(&mut lines, 31)?;
-    let want = "t3 ask alloc placed @400000\nt3 ask commit refused\nt0 turn\nt31 idle\n";
-    assert_eq!(rt; lines.as_slice(), want.as_bytes());
-    Ok(())
+    ask_line(lines, 3, alloc, placed).expect(rt, "memory for a line");
+    ask_line(lines, 3, Ask::Commit(CHUNK), Answer::Refused).expect(rt, "memory for a line");
+    turn_line(lines, 0).expect(rt, "memory for a line");
+    idle_line(lines, 31).expect(rt, "memory for a line");
 }
 
 #[test]
-fn prints_counts(rt: HostRuntime) -> Result<(), Fail> {
+fn prints_steps(rt: HostRuntime) {
+    let mut lines = Vec::new(rt.alloc());
+    print_steps(&rt, &mut lines);
+    let want = "t3 ask alloc placed @400000\nt3 ask commit refused\nt0 turn\nt31 idle\n";
+    reads(&rt, lines, want);
+}
+
+/// Prints the lines of these counts, of an arena that isn't there, and of threads.
+fn print_counts(rt: &impl Abort, lines: &mut Vec<u8>, counts: &Counts) {
+    counts_line(lines, 31, counts).expect(rt, "memory for a line");
+    no_arena_line(lines, 5).expect(rt, "memory for a line");
+    entries_line(lines, 31, 10, counts).expect(rt, "memory for a line");
+    threads_line(lines, 4, 2, 10, 1).expect(rt, "memory for a line");
+}
+
+#[test]
+fn prints_counts(rt: HostRuntime) {
     let counts = Counts {
         allocated: 112,
         active: 28672,
@@ -258,18 +250,21 @@ fn prints_counts(rt: HostRuntime) -> Result<(), Fail> {
         lextents: [0; 85],
     };
     let mut lines = Vec::new(rt.alloc());
-    counts_line(&mut lines, 31, &counts)?;
-    no_arena_line(&mut lines, 5)?;
-    entries_line(&mut lines, 31, 10, &counts)?;
-    threads_line(&mut lines, 4, 2, 10, 1)?;
+    print_counts(&rt, &mut lines, &counts);
     let want =
         "arena 31 allocated 112 active 28672 dirty 20480 muzzy 4096 retained 2048000 flight 8192 mapped 61440\nno arena 5\narena 31 entries 10 allocated 112 active 28672 dirty 20480 muzzy 4096 retained 2048000 flight 8192 mapped 61440\nthreads 4 phases 2 calls 10 failed 1\n";
-    assert_eq!(rt; lines.as_slice(), want.as_bytes());
-    Ok(())
+    reads(&rt, lines, want);
+}
+
+/// Checks the line of a bad line.
+fn prints_cause(rt: &impl Abort, alloc: Global, cause: Cause, want: &str) {
+    let mut line = Vec::new(alloc);
+    bad_line(&mut line, 2, cause).expect(rt, "memory for a line");
+    reads(rt, line, want);
 }
 
 #[test]
-fn prints_causes(rt: HostRuntime) -> Result<(), Fail> {
+fn prints_causes(rt: HostRuntime) {
     let causes = [
         (Cause::LimitLines, "line 2: limit lines\n"),
         (Cause::LimitBytes, "line 2: limit bytes\n"),
@@ -283,14 +278,12 @@ fn prints_causes(rt: HostRuntime) -> Result<(), Fail> {
         (Cause::Phase, "line 2: phase\n"),
     ];
     for (cause, want) in causes {
-        prints_cause(&rt, rt.alloc(), cause, want)?;
+        prints_cause(&rt, rt.alloc(), cause, want);
     }
-    Ok(())
 }
 
 #[test]
-fn the_usage_line_names_the_lists_of_words(rt: HostRuntime) -> Result<(), Fail> {
+fn the_usage_line_names_the_lists_of_words(rt: HostRuntime) {
     let want = "usage: jarena replay [--json] | threads [--journal] | soak START CALLS | check\n";
     assert_eq!(rt; usage_line(), want);
-    Ok(())
 }

@@ -3,9 +3,8 @@
 use call_plan::{Answered, Desk, Given, Request};
 use phase_run::{Job, Names, Place, Tally, request_of, setting_request};
 use space_model::{Rest, Seq};
-use std::alloc::{AllocError, Global};
+use std::alloc::Global;
 use std::process::Abort;
-use std::test::Fail;
 use thread_cache::Held;
 use trace_phase::{PhaseCall, SettingCall, Work};
 use trace_text::Name;
@@ -24,76 +23,107 @@ const GOT: Answered = Answered::Ok(Given::Region {
 });
 
 /// A name.
-fn name(alloc: Global, text: &[u8; 1]) -> Result<Name, AllocError> {
-    Name::new(alloc, text)
+fn name(rt: &impl Abort, alloc: Global, text: &[u8; 1]) -> Name {
+    Name::new(alloc, text).expect(rt, "memory for a name")
+}
+
+/// A call that takes a name.
+fn take(rt: &impl Abort, alloc: Global, text: &[u8; 1]) -> PhaseCall {
+    PhaseCall::Take(name(rt, alloc, text))
 }
 
 /// A desk at which the region is held.
-fn desk(alloc: Global) -> Result<Desk, AllocError> {
-    let mut desk = Desk::new(alloc)?;
-    desk.reserve()?;
+fn desk(rt: &impl Abort, alloc: Global) -> Desk {
+    let mut desk = Desk::new(alloc).expect(rt, "memory for a desk");
+    desk.reserve().expect(rt, "memory for a region");
     desk.hold(REGION);
-    Ok(desk)
+    desk
 }
 
 /// Checks which region a take of a name asks for.
-fn takes(
-    rt: &impl Abort,
-    alloc: Global,
-    names: &Names,
-    text: &[u8; 1],
-    want: (u64, u32),
-) -> Result<(), Fail> {
-    match request_of(0, names, &PhaseCall::Take(name(alloc, text)?)) {
+fn takes(rt: &impl Abort, alloc: Global, names: &Names, text: &[u8; 1], want: (u64, u32)) {
+    let call = take(rt, alloc, text);
+    match request_of(0, names, &call) {
         Request::Take { addr, arena } => assert_eq!(rt; (addr, arena), want),
         _ => panic!(rt; "no take"),
     }
-    Ok(())
+    drop(call);
+}
+
+/// Calls end with their answers at a desk: a malloc that got its region binds its name, and nothing else does.
+fn calls_end(rt: &impl Abort, alloc: Global, names: &mut Names, desk: &Desk) {
+    let memory = "memory for a name";
+    let (name_a, size) = (name(rt, alloc, b"a"), 20000);
+    let malloc = PhaseCall::Malloc { name: name_a, size };
+    names.bind_answer(malloc, &GOT, desk).expect(rt, memory);
+    takes(rt, alloc, names, b"a", (0x20_0000, 3));
+    takes(rt, alloc, names, b"b", (0, 0));
+    let (name_b, size) = (name(rt, alloc, b"b"), 1);
+    let malloc = PhaseCall::Malloc { name: name_b, size };
+    names
+        .bind_answer(malloc, &Answered::TooLarge, desk)
+        .expect(rt, memory);
+    takes(rt, alloc, names, b"b", (0, 0));
+    names
+        .bind_answer(take(rt, alloc, b"b"), &GOT, desk)
+        .expect(rt, memory);
+    takes(rt, alloc, names, b"b", (0, 0));
 }
 
 #[test]
-fn a_malloc_binds_its_name_to_where_its_region_lies(rt: HostRuntime) -> Result<(), Fail> {
-    let alloc = rt.alloc();
-    let desk = desk(alloc)?;
-    let mut names = Names::new(alloc);
-    let malloc = PhaseCall::Malloc {
-        name: name(alloc, b"a")?,
-        size: 20000,
-    };
-    names.bind_answer(malloc, &GOT, &desk)?;
-    takes(&rt, alloc, &names, b"a", (0x20_0000, 3))?;
-    takes(&rt, alloc, &names, b"b", (0, 0))?;
-    let refused = PhaseCall::Malloc {
-        name: name(alloc, b"b")?,
-        size: 1,
-    };
-    names.bind_answer(refused, &Answered::TooLarge, &desk)?;
-    takes(&rt, alloc, &names, b"b", (0, 0))?;
-    names.bind_answer(PhaseCall::Take(name(alloc, b"b")?), &GOT, &desk)?;
-    takes(&rt, alloc, &names, b"b", (0, 0))
+fn a_malloc_binds_its_name_to_where_its_region_lies(rt: HostRuntime) {
+    let desk = desk(&rt, rt.alloc());
+    let mut names = Names::new(rt.alloc());
+    calls_end(&rt, rt.alloc(), &mut names, &desk);
+    drop(names);
+    drop(desk);
 }
 
-#[test]
-fn a_worker_knows_the_names_of_its_calls(rt: HostRuntime) -> Result<(), Fail> {
-    let alloc = rt.alloc();
-    let mut names = Names::new(alloc);
-    for (text, addr) in [(b"a", 1), (b"b", 2)] {
-        names.bind(name(alloc, text)?, Place { addr, arena: 5 })?;
-    }
+/// Binds a name.
+fn bind(rt: &impl Abort, alloc: Global, names: &mut Names, text: &[u8; 1], place: (u64, u32)) {
+    let (addr, arena) = place;
+    let bound = names.bind(name(rt, alloc, text), Place { addr, arena });
+    bound.expect(rt, "memory for a name");
+}
+
+/// A job of three calls, one that takes `b` and one that frees `c`, where these names are bound.
+fn job(rt: &impl Abort, alloc: Global, names: &Names) -> Job {
+    let memory = "memory for a call";
     let mut calls = Seq::new(alloc);
-    calls.push(PhaseCall::Flush)?;
-    calls.push(PhaseCall::Take(name(alloc, b"b")?))?;
-    calls.push(PhaseCall::Free(name(alloc, b"c")?))?;
-    let mut job = Job::new(alloc, &names, 9, Work { client: 7, calls })?;
+    calls.push(PhaseCall::Flush).expect(rt, memory);
+    calls.push(take(rt, alloc, b"b")).expect(rt, memory);
+    let free = PhaseCall::Free(name(rt, alloc, b"c"));
+    calls.push(free).expect(rt, memory);
+    Job::new(alloc, names, 9, Work { client: 7, calls }).expect(rt, "memory for a job")
+}
+
+/// Checks a job where `a` and `b` were bound, and binds `b` elsewhere among its names.
+fn knows_names(rt: &impl Abort, alloc: Global, job: &mut Job) {
     assert_eq!(rt; (job.client, job.moment, job.calls.len()), (7, 9, 3));
-    takes(&rt, alloc, &job.names, b"a", (0, 0))?;
-    takes(&rt, alloc, &job.names, b"b", (2, 5))?;
-    takes(&rt, alloc, &job.names, b"c", (0, 0))?;
-    job.names
-        .bind(name(alloc, b"b")?, Place { addr: 3, arena: 6 })?;
-    names.merge(job.names)?;
-    takes(&rt, alloc, &names, b"a", (1, 5))?;
-    takes(&rt, alloc, &names, b"b", (3, 6))
+    takes(rt, alloc, &job.names, b"a", (0, 0));
+    takes(rt, alloc, &job.names, b"b", (2, 5));
+    takes(rt, alloc, &job.names, b"c", (0, 0));
+    bind(rt, alloc, &mut job.names, b"b", (3, 6));
+}
+
+#[test]
+fn a_worker_knows_the_names_of_its_calls(rt: HostRuntime) {
+    let alloc = rt.alloc();
+    let mut names = Names::new(alloc);
+    bind(&rt, alloc, &mut names, b"a", (1, 5));
+    bind(&rt, alloc, &mut names, b"b", (2, 5));
+    let mut job = job(&rt, alloc, &names);
+    knows_names(&rt, alloc, &mut job);
+    let Job {
+        calls,
+        names: own,
+        ..
+    } = job;
+    drop(calls);
+    names.merge(own).expect(&rt, "memory for names");
+    takes(&rt, alloc, &names, b"a", (1, 5));
+    takes(&rt, alloc, &names, b"b", (3, 6));
+    drop(names);
 }
 
 #[test]
