@@ -7,7 +7,8 @@ use super::draws::Draws;
 use super::flags::Gate;
 use hook_api::{ExtentHooks, HookShelf, Placed, Said};
 use space_model::{CHUNK_PAGES, CHUNKS, Span};
-use std::alloc::{AllocError as NoMemory, Global};
+use std::alloc::Global;
+use std::process::Abort;
 use std::sync::Arc;
 
 /// How many pages each of the 32 boxes of a shelf hands out at most.
@@ -186,15 +187,16 @@ impl ExtentHooks for FickleHooks {
 
 /// 32 boxes that refuse one in so many asks, or none where that is 0. Box 0 has a gate where one is given.
 pub(crate) fn fickle(
+    rt: &impl Abort,
     alloc: Global,
     one_in: u64,
-    gate: Option<Arc<Gate>>,
-) -> Result<HookShelf<FickleHooks>, NoMemory> {
-    let mut gate = gate;
+    mut gate: Option<Arc<Gate>>,
+) -> HookShelf<FickleHooks> {
     let mut boxes = Vec::new(alloc);
     while boxes.len() < 32 {
-        let box_no = boxes.len() as u32;
-        boxes.push(FickleHooks::new(box_no, one_in, gate.take()))?;
+        let hooks = FickleHooks::new(boxes.len() as u32, one_in, gate.take());
+        boxes.push(hooks).expect(rt, "memory for a box");
     }
-    Ok(HookShelf::new(boxes))
+    drop(gate);
+    HookShelf::new(boxes)
 }

@@ -7,10 +7,9 @@ use super::heaps::{Shelf, Single, counts_of, is_done, region_of, share_one};
 use call_plan::{Answered, Request};
 use heap_runs::{Ctx, SharedHeap};
 use hook_api::{HookShelf, Kind};
-use std::alloc::{AllocError as NoMemory, Global};
+use std::alloc::Global;
 use std::process::Abort;
 use std::sync::Wait;
-use std::test::Fail;
 
 /// Who refused a region: the box, the place of its ask among those of the client to that box, and whether a plan did.
 type Refusal = Option<(u32, u64, bool)>;
@@ -29,34 +28,33 @@ fn two_mallocs<R: Wait + Abort>(
     rt: &R,
     alloc: Global,
     boxes: HookShelf<FickleHooks>,
-) -> Result<(Refusal, Refusal), NoMemory> {
+) -> (Refusal, Refusal) {
     let Single {
         shelf,
         heap,
         mut ctx,
-    } = share_one(alloc, boxes)?;
+    } = share_one(rt, alloc, boxes);
     let first = refusal_of(rt, heap.malloc(rt, alloc, &shelf, &mut ctx, 1000));
     let second = refusal_of(rt, heap.malloc(rt, alloc, &shelf, &mut ctx, 1000));
-    Ok((first, second))
+    drop((shelf, heap, ctx));
+    (first, second)
 }
 
 #[test]
-fn a_refusal_is_told_to_its_own_call(rt: HostRuntime) -> Result<(), Fail> {
+fn a_refusal_is_told_to_its_own_call(rt: HostRuntime) {
     let alloc = rt.alloc();
-    let mut boxes = fickle(alloc, 0, None)?;
+    let mut boxes = fickle(&rt, alloc, 0, None);
     boxes.plan(0, Kind::Alloc, 1);
-    assert_eq!(rt; two_mallocs(&rt, alloc, boxes)?, (Some((0, 0, true)), None));
-    Ok(())
+    assert_eq!(rt; two_mallocs(&rt, alloc, boxes), (Some((0, 0, true)), None));
 }
 
 #[test]
-fn refusals_of_a_box_are_told_by_their_places(rt: HostRuntime) -> Result<(), Fail> {
+fn refusals_of_a_box_are_told_by_their_places(rt: HostRuntime) {
     let alloc = rt.alloc();
     assert_eq!(rt;
-        two_mallocs(&rt, alloc, fickle(alloc, 1, None)?)?,
+        two_mallocs(&rt, alloc, fickle(&rt, alloc, 1, None)),
         (Some((0, 0, false)), Some((0, 1, false)))
     );
-    Ok(())
 }
 
 /// A client makes a second arena, which asks box 3, and calls it.
@@ -80,15 +78,15 @@ fn call_second<R: Wait + Abort>(
 }
 
 #[test]
-fn a_client_calls_two_arenas(rt: HostRuntime) -> Result<(), Fail> {
+fn a_client_calls_two_arenas(rt: HostRuntime) {
     let alloc = rt.alloc();
     let Single {
         shelf,
         mut heap,
         mut ctx,
-    } = share_one(alloc, fickle(alloc, 0, None)?)?;
+    } = share_one(&rt, alloc, fickle(&rt, alloc, 0, None));
     call_second(&rt, alloc, &shelf, &mut heap, &mut ctx);
-    Ok(())
+    drop((shelf, heap, ctx));
 }
 
 /// A client widens a region, and then cuts it.
@@ -113,15 +111,15 @@ fn resize_twice<R: Wait + Abort>(
 }
 
 #[test]
-fn a_region_is_resized_where_it_is(rt: HostRuntime) -> Result<(), Fail> {
+fn a_region_is_resized_where_it_is(rt: HostRuntime) {
     let alloc = rt.alloc();
     let Single {
         shelf,
         heap,
         mut ctx,
-    } = share_one(alloc, fickle(alloc, 0, None)?)?;
+    } = share_one(&rt, alloc, fickle(&rt, alloc, 0, None));
     resize_twice(&rt, alloc, &shelf, &heap, &mut ctx);
-    Ok(())
+    drop((shelf, heap, ctx));
 }
 
 /// Checks that the client has no explicit cache 0.
@@ -159,13 +157,13 @@ fn use_cache<R: Wait + Abort>(
 }
 
 #[test]
-fn an_explicit_cache_gives_its_region_again(rt: HostRuntime) -> Result<(), Fail> {
+fn an_explicit_cache_gives_its_region_again(rt: HostRuntime) {
     let alloc = rt.alloc();
     let Single {
         shelf,
         heap,
         mut ctx,
-    } = share_one(alloc, fickle(alloc, 0, None)?)?;
+    } = share_one(&rt, alloc, fickle(&rt, alloc, 0, None));
     use_cache(&rt, alloc, &shelf, &heap, &mut ctx);
-    Ok(())
+    drop((shelf, heap, ctx));
 }

@@ -13,7 +13,6 @@ use heap_runs::{Ctx, SharedHeap};
 use std::alloc::{AllocError as NoMemory, Global};
 use std::process::Abort;
 use std::sync::Wait;
-use std::test::Fail;
 use std::thread;
 use std::thread::Threads;
 
@@ -91,6 +90,7 @@ fn work<R: Wait + Abort>(
         let now = round.saturating_mul(STEP);
         call(rt, alloc, shelf, heap, board, &mut ctx, &mut own, now);
     }
+    drop(own);
     ctx
 }
 
@@ -123,38 +123,40 @@ fn crowd<R: Threads + Wait + Abort + Sync>(
     one_in: u64,
     calls: u64,
     machine: Machine,
-) -> Result<u64, NoMemory> {
+) -> u64 {
     let Trial {
         shelf,
         heap,
         mut ctxs,
-    } = share(alloc, fickle(alloc, one_in, None)?, CLIENTS)?;
+    } = share(rt, alloc, fickle(rt, alloc, one_in, None), CLIENTS);
     prepare(rt, alloc, &shelf, &heap, &mut ctxs);
     let board = Board::new(alloc);
-    let ctxs = work_at_once(rt, alloc, &shelf, &heap, &board, calls, ctxs)?;
-    let closed = ended(alloc, &shelf, heap, ctxs)?;
+    let ctxs = work_at_once(rt, alloc, &shelf, &heap, &board, calls, ctxs).expect(
+        rt,
+        "memory for threads",
+    );
+    let closed = ended(rt, alloc, &shelf, heap, ctxs);
     assert!(rt; agree(rt, alloc, machine, &closed) > calls);
-    Ok(board.refused())
+    let refused = board.refused();
+    drop((closed, board, shelf));
+    refused
 }
 
 #[test]
-fn journals_of_threads_leave_their_counts(rt: HostRuntime) -> Result<(), Fail> {
+fn journals_of_threads_leave_their_counts(rt: HostRuntime) {
     let alloc = rt.alloc();
-    assert_eq!(rt; crowd(&rt, alloc, 0, MANY, Machine::Arena)?, 0);
-    Ok(())
+    assert_eq!(rt; crowd(&rt, alloc, 0, MANY, Machine::Arena), 0);
 }
 
 #[test]
-fn journals_of_refusals_leave_their_counts(rt: HostRuntime) -> Result<(), Fail> {
+fn journals_of_refusals_leave_their_counts(rt: HostRuntime) {
     let alloc = rt.alloc();
-    assert!(rt; crowd(&rt, alloc, 20, MANY, Machine::Arena)? > 0);
-    Ok(())
+    assert!(rt; crowd(&rt, alloc, 20, MANY, Machine::Arena) > 0);
 }
 
 #[test]
-fn counts_are_the_sums_of_replayed_spaces(rt: HostRuntime) -> Result<(), Fail> {
+fn counts_are_the_sums_of_replayed_spaces(rt: HostRuntime) {
     let alloc = rt.alloc();
-    assert_eq!(rt; crowd(&rt, alloc, 0, FEW, Machine::Plain)?, 0);
-    assert!(rt; crowd(&rt, alloc, 20, FEW, Machine::Plain)? > 0);
-    Ok(())
+    assert_eq!(rt; crowd(&rt, alloc, 0, FEW, Machine::Plain), 0);
+    assert!(rt; crowd(&rt, alloc, 20, FEW, Machine::Plain) > 0);
 }

@@ -5,14 +5,13 @@ ghost use Rattle.space_model.specs.Settings.{is_decay_time};
 ghost use Rattle.heap_runs.specs.Heaps.{MayCall, shelf_id};
 
 use super::boxes::fickle;
-use super::heaps::{Shelf, Single, Trial, counts_of, is_done, last, region_of, share, share_one};
+use super::heaps::{Pair, Shelf, Single, counts_of, is_done, region_of, share_one, share_two};
 use call_plan::Answered;
 use heap_runs::{Ctx, SharedHeap};
 use space_model::Rest;
 use std::alloc::Global;
 use std::process::Abort;
 use std::sync::Wait;
-use std::test::Fail;
 
 /// Checks that no region at an address was the client's to give, or to take.
 fn is_not_held(rt: &impl Abort, answer: Answered, addr: u64) {
@@ -67,22 +66,17 @@ fn take_in<R: Wait + Abort>(
 }
 
 #[test]
-fn a_published_region_is_taken_over(rt: HostRuntime) -> Result<(), Fail> {
+fn a_published_region_is_taken_over(rt: HostRuntime) {
     let alloc = rt.alloc();
-    let Trial {
+    let Pair {
         shelf,
         heap,
-        mut ctxs,
-    } = share(alloc, fickle(alloc, 0, None)?, 2)?;
-    let Some(mut one) = last(&shelf, &heap, &mut ctxs) else {
-        panic!(rt; "there is a client")
-    };
-    let Some(mut other) = last(&shelf, &heap, &mut ctxs) else {
-        panic!(rt; "there is another client")
-    };
+        mut one,
+        mut other,
+    } = share_two(&rt, alloc, fickle(&rt, alloc, 0, None));
     let addr = give_away(&rt, alloc, &shelf, &heap, &mut one, &mut other);
     take_in(&rt, alloc, &shelf, &heap, &mut one, &mut other, addr);
-    Ok(())
+    drop((shelf, heap, one, other));
 }
 
 /// How many bytes stay dirty behind a malloc and a free, where dirty extents decay in so many milliseconds.
@@ -108,14 +102,14 @@ fn dirty_left<R: Wait + Abort>(
 }
 
 #[test]
-fn a_decay_time_of_0_lets_no_page_stay_dirty(rt: HostRuntime) -> Result<(), Fail> {
+fn a_decay_time_of_0_lets_no_page_stay_dirty(rt: HostRuntime) {
     let alloc = rt.alloc();
     let Single {
         shelf,
         heap,
         mut ctx,
-    } = share_one(alloc, fickle(alloc, 0, None)?)?;
+    } = share_one(&rt, alloc, fickle(&rt, alloc, 0, None));
     assert_eq!(rt; dirty_left(&rt, alloc, &shelf, &heap, &mut ctx, -1), 20480);
     assert_eq!(rt; dirty_left(&rt, alloc, &shelf, &heap, &mut ctx, 0), 0);
-    Ok(())
+    drop((shelf, heap, ctx));
 }

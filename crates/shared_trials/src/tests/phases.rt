@@ -10,7 +10,7 @@ use super::heaps::{Shelf, Trial, ended, last, share};
 use call_plan::Request;
 use heap_runs::{Closed, Ctx, Job, SharedHeap};
 use std::alloc::{AllocError as NoMemory, Global};
-use std::test::Fail;
+use std::process::Abort;
 
 /// What one client asks for: regions of many sizes, and now and then that unused pages go.
 fn requests(alloc: Global) -> Result<Vec<Request>, NoMemory>
@@ -55,18 +55,22 @@ fn jobs(
     Ok(jobs)
 }
 
+/// Checks what a heap leaves whose clients were eight.
+fn is_full(rt: &impl Abort, closed: &Closed) {
+    let journals = closed.journals.as_slice();
+    assert_eq!(rt; (journals.len(), closed.seats.len()), (32, 8));
+    assert!(rt; journals[0].kept.len() > 2000);
+}
+
 #[test]
-fn clients_in_threads_share_an_arena(rt: HostRuntime) -> Result<(), Fail> {
+fn clients_in_threads_share_an_arena(rt: HostRuntime) {
     let alloc = rt.alloc();
-    let Trial { shelf, heap, ctxs } = share(alloc, fickle(alloc, 0, None)?, 8)?;
-    let jobs = jobs(alloc, &shelf, &heap, ctxs)?;
-    let ctxs = heap.phase(&rt, alloc, &shelf, jobs)?;
-    let Closed {
-        journals,
-        seats,
-        ..
-    } = ended(alloc, &shelf, heap, ctxs)?;
-    assert_eq!(rt; (journals.as_slice().len(), seats.len()), (32, 8));
-    assert!(rt; journals.as_slice()[0].kept.len() > 2000);
-    Ok(())
+    let Trial { shelf, heap, ctxs } = share(&rt, alloc, fickle(&rt, alloc, 0, None), 8);
+    let jobs = jobs(alloc, &shelf, &heap, ctxs).expect(&rt, "memory for jobs");
+    let ctxs = heap
+        .phase(&rt, alloc, &shelf, jobs)
+        .expect(&rt, "memory for threads");
+    let closed = ended(&rt, alloc, &shelf, heap, ctxs);
+    is_full(&rt, &closed);
+    drop((closed, shelf));
 }

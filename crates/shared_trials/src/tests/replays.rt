@@ -47,17 +47,27 @@ fn scan(rt: &impl Abort, space: &mut Space, entry: &Entry)
     plain_step(space, entry).expect(rt, "memory for the space");
 }
 
-/// The counts of the space that a journal leaves, summed up by scans, where it is live.
-fn scanned(rt: &impl Abort, alloc: Global, journal: &Journal) -> Option<Counts> {
-    let mut space = opening(alloc, journal.index);
-    for kept in entries_of(rt, alloc, journal).as_slice() {
-        scan(rt, &mut space, kept.entry());
-    }
+/// The counts of a space, summed up by scans, where it is live.
+fn counts_of_space(space: &Space) -> Option<Counts>
+    requires { Sound space.now }
+{
     if space.life.is_live() {
-        Some(plain_counts(&space))
+        Some(plain_counts(space))
     } else {
         None
     }
+}
+
+/// The counts of the space that a journal leaves, summed up by scans, where it is live.
+fn scanned(rt: &impl Abort, alloc: Global, journal: &Journal) -> Option<Counts> {
+    let mut space = opening(alloc, journal.index);
+    let entries = entries_of(rt, alloc, journal);
+    for kept in entries.as_slice() {
+        scan(rt, &mut space, kept.entry());
+    }
+    let counts = counts_of_space(&space);
+    drop((entries, space));
+    counts
 }
 
 /// An arena takes the next entry in, which has to stand.
@@ -68,18 +78,26 @@ fn step(rt: &impl Abort, arena: &mut Arena, entry: &Entry) {
     arena.step(*client, op).expect(rt, "memory for the arena");
 }
 
-/// The counts of the arena that a journal leaves, where it is live.
-fn stepped(rt: &impl Abort, alloc: Global, journal: &Journal) -> Option<Counts> {
-    let space = opening(alloc, journal.index);
-    let mut arena = Arena::new(alloc, space).expect(rt, "memory for an arena");
-    for kept in entries_of(rt, alloc, journal).as_slice() {
-        step(rt, &mut arena, kept.entry());
-    }
+/// The counts of an arena, where it is live.
+fn counts_of_arena(arena: &Arena) -> Option<Counts> {
     if arena.life().is_live() {
         Some(arena.counts())
     } else {
         None
     }
+}
+
+/// The counts of the arena that a journal leaves, where it is live.
+fn stepped(rt: &impl Abort, alloc: Global, journal: &Journal) -> Option<Counts> {
+    let space = opening(alloc, journal.index);
+    let mut arena = Arena::new(alloc, space).expect(rt, "memory for an arena");
+    let entries = entries_of(rt, alloc, journal);
+    for kept in entries.as_slice() {
+        step(rt, &mut arena, kept.entry());
+    }
+    let counts = counts_of_arena(&arena);
+    drop((entries, arena));
+    counts
 }
 
 /// The counts that a journal leaves, where its arena is live.
