@@ -31,7 +31,7 @@ pub use Rattle.hook_api.specs.Hooks.{Account, Tells}
 pub use Rattle.hook_api.specs.Kept.{IsKept, KeptFacts, heard_of}
 pub use Rattle.hook_api.specs.Kepts.{IsPaired, asks_after, kept_of, paired}
 pub use Rattle.hook_api.specs.Orders.{AreInForce, AreOf, IsByPlanOf, IsLeftOf, no_order, no_orders, plan_for}
-pub use Rattle.hook_api.specs.Plans.{PlanRefusesNth, next_plan, plan_after, plan_of, refuses, refuses_next, is_set, kind_index, kind_of, plan_at, plans_after}
+pub use Rattle.hook_api.specs.Plans.{PlanRefusesNth, next_plan, plan_after, plan_of, refuses, refuses_next, kind_index, kind_of, plan_at, plans_after}
 pub use Rattle.hook_api.specs.Seats.{refused_at, tallies_of}
 pub use Rattle.hook_api.specs.ShareSteps.{first_part, idle, both_tallies, later_part, spent, most, with_refusal, HasBox, came_home, counted, having, took, waited, Took}
 pub use Rattle.hook_api.specs.Shared.{HasCounted, IsAskOfSome, IsSeatOf, IsNewSeat}

@@ -46,12 +46,6 @@ next_plan Pass = Pass
 next_plan (After passing) = if passing == 0 then Pass else After (passing - 1)
 next_plan All = All
 
--- whether a plan is in force
-abbrev pub is_set : Plan → Bool
-is_set Pass = false
-is_set (After passing) = true
-is_set All = true
-
 -- no plan of any kind
 abbrev pub no_plans : List Plan
 no_plans = replicate 8 Pass

@@ -1,7 +1,7 @@
 //! Plans: which of the next asks of a kind are refused without being passed on.
 
 ghost use Rattle.std.specs.Prelude.{◌≡◌};
-ghost use Rattle.hook_api.specs.Plans.{is_set, kind_of, kind_index, plan_of, refuses_next, next_plan};
+ghost use Rattle.hook_api.specs.Plans.{kind_of, kind_index, plan_of, refuses_next, next_plan};
 
 use space_model::Ask;
 
@@ -29,18 +29,6 @@ pub enum Kind {
 impl Kind {
     /// How many kinds there are.
     pub(crate) const COUNT: usize = 8;
-
-    /// The kinds, by their numbers.
-    pub(crate) const ALL: [Kind; Kind::COUNT] = [
-        Kind::Alloc,
-        Kind::Dalloc,
-        Kind::Commit,
-        Kind::Decommit,
-        Kind::PurgeLazy,
-        Kind::PurgeForced,
-        Kind::Split,
-        Kind::Merge,
-    ];
 
     /// The kind of an ask; a destroy has none.
     pub(crate) fn of(ask: Ask) -> Option<Kind>
@@ -97,13 +85,6 @@ impl Plan {
         } else {
             Plan::After(nth - 1)
         }
-    }
-
-    /// Whether it is in force.
-    pub(crate) fn is_set(self) -> bool
-        ensures { result ≡ is_set self }
-    {
-        !matches!(self, Plan::Pass)
     }
 
     /// Whether the next ask is refused.

@@ -83,14 +83,6 @@ abbrev pub Goes : Limits → ℕ → Found → List ℕ → List ℕ → List Lo
 Goes limits number found pending pending' log log' verdict = (more : List ℕ) → (is_whole_line found ≡ false → more ≡ []) →
     Follows verdict (judged limits number (lines_of (pending ++ more)) log) (judged limits (number + 1) (lines_of (pending' ++ more)) log')
 
--- a verdict on it is one on the input
-pub carry_verdict : (limits : Limits) (opening : List Logged) (number : ℕ) (found : Found) (pending pending' : List ℕ) (log log' : List Logged) (verdict : Verdict) (initial left : Option (List ℕ)) →
-    Carries initial pending left (IsSame limits opening number log) → Goes limits number found pending pending' log log' (Some verdict) → (is_whole_line found ≡ false → IsAtEnd left) →
-    IfSome initial (λ input. Tells verdict (judged limits 1 (lines_of input) opening))
-carry_verdict limits opening number found pending pending' log log' verdict None left so goes end = tt
-carry_verdict limits opening number found pending pending' log log' verdict (Some input) None so goes end = absurd so
-carry_verdict limits opening number found pending pending' log log' verdict (Some input) (Some left) so goes end = subst (Tells verdict) so.0 (goes left end)
-
 -- and without one the next lines are
 pub carry_next : (limits : Limits) (opening : List Logged) (number : ℕ) (found : Found) (pending pending' : List ℕ) (log log' : List Logged) (initial left : Option (List ℕ)) →
     Carries initial pending left (IsSame limits opening number log) → Goes limits number found pending pending' log log' None → (is_whole_line found ≡ false → IsAtEnd left) →
@@ -109,15 +101,7 @@ first_inside most found.TooLong bytes first = tt
 first_inside most found.Cut bytes first = tt
 first_inside most found.End bytes first = tt
 
--- what stands first, as what it comes to
-pub goes_long : (limits : Limits) (number : ℕ) (pending : List ℕ) (log : List Logged) → number ≤ limits.lines → IsFirst limits.bytes found.TooLong pending → (more : List ℕ) → judged limits number (lines_of (pending ++ more)) log ≡ TooLong number
-goes_long limits number pending log few first more = judged_long limits number (lines_of (pending ++ more)) log few (first more)
-
-pub goes_cut : (limits : Limits) (number : ℕ) (pending : List ℕ) (log : List Logged) → number ≤ limits.lines → IsFirst limits.bytes found.Cut pending → (more : List ℕ) → more ≡ [] → judged limits number (lines_of (pending ++ more)) log ≡ BadLine number NotEntry
-goes_cut limits number pending log few first more none =
-    ap (λ (bytes : List ℕ). judged limits number (lines_of bytes) log) (ap (λ (xs : List ℕ). pending ++ xs) none ∙ append-nil pending)
-    ∙ ap (λ (lines : List Line). judged limits number lines log) first.1 ∙ judged_cut limits number pending log few first.0
-
+-- where nothing is left, the input is judged
 pub goes_end : (limits : Limits) (number : ℕ) (pending : List ℕ) (log : List Logged) → pending ≡ [] → (more : List ℕ) → more ≡ [] → judged limits number (lines_of (pending ++ more)) log ≡ Left log
 goes_end limits number pending log none more nothing = rw (none, nothing) refl
 

@@ -134,7 +134,3 @@ apart_goes log chunk second before between one other above below last =
 pub apart_before : (log : List Logged) (chunk second : ℕ) → AreApart log 1 chunk → AreApart log chunk second → AreApart log 1 second
 apart_before log chunk second before between other above below last =
     elim (cases_lt other chunk) [ inl less ↦ before other above less last | inr from ↦ between other from below last ]
-
--- nor at all, where that lies past all chunks
-pub apart_all : (log : List Logged) (second : ℕ) → last_chunk < second → AreApart log 1 second → IsApart log
-apart_all log second past before chunk low high = before chunk low (omega (arith, past, high)) high

@@ -2,12 +2,7 @@
 use Rattle.std.proofs.Common.{◌∙◌, ℕ, List, Option, None, Some, refl}
 use Rattle.line_reader.specs.Lines.{SameUnread}
 
--- they are what they are
-pub same_unread : (pending : List ℕ) (left : Option (List ℕ)) → SameUnread pending left pending left
-same_unread pending None = tt
-same_unread pending (Some left) = refl
-
--- and stay so through two reads
+-- they stay what they are through two reads
 pub same-trans : (one two three : List ℕ) (left left' left'' : Option (List ℕ)) → SameUnread one left two left' → SameUnread two left' three left'' → SameUnread one left three left''
 same-trans one two three None left' left'' p q = tt
 same-trans one two three (Some left) None left'' p q = absurd p

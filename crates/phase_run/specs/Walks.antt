@@ -28,10 +28,6 @@ module _ {D : Type 0} (asked : D → Request) (told : D → Answered) (IsDone : 
       × WalksLines now (names_after names call (told done) mid) mid calls later has names'
   WalksLines now names had calls dones has names' = ⊥
 
-  -- how many of them weren't answered Ok
-  abbrev pub failed_among : List D → ℕ
-  failed_among dones = count_by (λ d. is_failed (told d)) dones
-
 -- What a worker did in a phase: what its client had, the calls that were carried out, and what the client has then.
 pub record Worker (D : Type 0) : Type 0 where
   pub had : DeskFacts

@@ -254,7 +254,7 @@ impl RegionTable {
         Some(self.regions[spot.place])
     }
 
-    /// Makes room for two more regions.
+    /// Makes room for two more regions. `NoMemory` is also what a table of over 2^29 regions gives.
     #[inline(always)]
     pub fn reserve(&mut self) -> Result<(), NoMemory>
         ensures held { self.new.held ≡ self.old.held }

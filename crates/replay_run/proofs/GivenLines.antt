@@ -33,12 +33,6 @@ client_call_limits given is = absurd is
 pub one_more_done : (lines done old rest : List Line) (given : Line) → lines ≡ done ++ old → old ≡ given ∷ rest → lines ≡ (done ++ given ∷ []) ++ rest
 one_more_done lines done old rest given are takes = are ∙ ap (λ (ls : List Line). done ++ ls) takes ∙ sym (append_assoc done (given ∷ []) rest)
 
--- none is left
-pub through_all : {from : Outset} {now : Now} (lines done old : List Line) → lines ≡ done ++ old → old ≡ [] → Here from done Nothing [] now → Here from lines Nothing [] now
-through_all {from} {now} lines done old are none here =
-    let all : lines ≡ done = are ∙ ap (λ (ls : List Line). done ++ ls) none ∙ append-nil done in
-    subst (λ (ls : List Line). Here from ls Nothing [] now) (sym all) here
-
 -- a stop that was passed on
 pub halted_by : {T : Type 0} {journals : List Journal} {heard : List AskFacts} {shelf_before shelf_after : Shelf} {before after : Option (List ℕ)} (lines done rest : List Line) (r : Result T Stop) (stop : Stop) → IsErrAnd r (λ passed. passed ≡ stop) →
     lines ≡ done ++ rest → StopOf done stop journals heard shelf_before shelf_after before after →
