@@ -27,4 +27,5 @@ pub mod Places
 pub mod Refusals
 pub mod Multiples
 pub mod Memaligns
+pub mod FirstTurns
 pub mod Proved

@@ -16,3 +16,4 @@ pub mod Bounds
 pub mod Refusals
 pub mod Causes
 pub mod Aligned
+pub mod Soon

@@ -22,7 +22,7 @@ use thread_cache::Held;
 impl Wish {
     /// So many regions of a class, in an extent at an alignment in pages, of which one takes the place of the one in hand or none
     /// does.
-    fn of_class(moves: bool, class: u8, align: u64, count: u32) -> Wish
+    pub(crate) fn of_class(moves: bool, class: u8, align: u64, count: u32) -> Wish
         requires { class < 121 }
         ensures { result ≡ wish_for moves class align count }
     {

@@ -1,7 +1,7 @@
 //! The automaton of a call.
 
 ghost use Rattle.std.specs.Prelude.{◌≡◌, List, ◌∷◌, None, Some, IfNone, IfOk, IfSome, IsOk, OnOk, OnErr, ◌≤◌, ◌||◌, true, false, is_some, length};
-ghost use Rattle.call_plan.specs.Calls.{HasRoomToHold, may_hold, moment_at, named_call, started, takes_memory};
+ghost use Rattle.call_plan.specs.Calls.{HasRoomToHold, IsCall, may_hold, moment_at, named_call, started, takes_memory};
 ghost use Rattle.call_plan.specs.Desks.{flushes};
 ghost use Rattle.call_plan.specs.Items.{Item as Fed, lent};
 ghost use Rattle.call_plan.specs.Points.{IsSizedNext, IsSizedTurn};
@@ -385,6 +385,20 @@ impl Model for Call {
 }
 
 impl Call {
+    /// A call that stands in the arena with this index, where this leads.
+    pub(crate) fn at(client: u32, request: Request, arena: u32, lead: Lead) -> Call
+        requires { IsCall (stage arena (led lead None)) }
+        ensures { result ≡ record { client = client; request = request; stage = stage arena (led lead None) } }
+    {
+        let mut stage = Stage::new();
+        stage.stand(arena, lead);
+        Call {
+            client,
+            request,
+            stage,
+        }
+    }
+
     /// A call begins that carries out a request of a client. It stands in the place where it is open, and else gives its answer.
     /// The desk is from now on as the call leaves it, with room for the region that it may come to hold. `NoMemory` where there
     /// is none for that, or to name several regions that go back first: the client has what it had. A request by which no region

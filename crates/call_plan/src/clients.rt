@@ -202,8 +202,17 @@ impl Desk {
         }
     }
 
+    /// Whether an explicit cache is in the place of its own one.
+    #[inline(always)]
+    pub(crate) fn is_swapped(&self) -> bool
+        ensures { result ≡ is_some self.now.facts.swapped }
+    {
+        self.swapped.is_some()
+    }
+
     /// Whether a region that is freed is cached at once.
-    fn is_cached_at_once(&self, region: Held) -> bool
+    #[inline(always)]
+    pub(crate) fn is_cached_at_once(&self, region: Held) -> bool
         ensures { result ≡ (is_cacheable region.class self.now.facts && has_slot region.class self.now.facts) }
     {
         self.is_cacheable(region.class) && self.cache.len(region.class) < slots(region.class)
@@ -244,6 +253,7 @@ impl Desk {
     }
 
     /// Whether a region of the class is cached that may be taken.
+    #[inline(always)]
     pub fn has_hit(&self, class: u8) -> bool
         ensures { result ≡ is_some (hit class self.now.facts) }
     {
@@ -251,6 +261,7 @@ impl Desk {
     }
 
     /// Takes the region of the class that was cached last, if regions of the class are cached.
+    #[inline(always)]
     pub fn take_hit(&mut self, class: u8) -> Option<Held>
         ensures hit { result ≡ hit class self.old.facts }
         ensures some { IfSome result (λ _. self.new.facts ≡ hitting class self.old.facts) }

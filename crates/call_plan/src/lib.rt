@@ -19,6 +19,7 @@ mod puts;
 mod reallocs;
 mod resizes;
 mod settings;
+mod soon;
 mod turns;
 
 pub use batches::Batch;
@@ -31,6 +32,7 @@ pub use laws::{
 };
 pub use needs::{Answered, Given, Item, Need, Request, Turn};
 pub use points::{AskPoint, Change, Lead, Resize, Then, TurnPoint, Visit, Wish};
+pub use soon::whole_fit;
 
 #[cfg(test)]
 mod tests;
