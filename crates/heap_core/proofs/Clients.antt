@@ -1,5 +1,5 @@
 -- The laws of clients, where all arenas are known at one moment.
-use Rattle.heap_core.proofs.Words.{entry_of, room_of, opens, moment_of, after, step, Replied, Op, Reply, Space, AskFacts, mine, Ok, stands, GrowDone, OfferDone, ◌≡◌, ◌≤◌, ℕ, true, List, Option, None, refl, arith, nat_lt, ◌<◌, Result, sym, subst, ◌≢◌, IsTrue, get_or-set_other, with_found, stage, told, kept, Sound, both_true, op_keeps, step_of, room_in, IsArenas, record_after, record_at, spaces_of, reply_in, records_turned, with_chunk_found, met_by_alloc, met_by_dalloc, others_of, mine_in, CanTurn, after_turn, AsksLeadOn, OthersStay, TurnsLeadOn, WaitsNext, Record, IsReplayed, Comes, StartsSit, AsksSit, OthersSit, StarvesSit, TurnsSit, AreApart, AreArenas, CanTake}
+use Rattle.heap_core.proofs.Words.{entry_of, room_of, opens, moment_of, after, step, Replied, Op, Reply, Space, AskFacts, mine, Ok, stands, GrowDone, OfferDone, ◌≡◌, ◌≤◌, ℕ, true, List, Option, None, refl, arith, nat_lt, ◌<◌, Result, sym, subst, ◌≢◌, IsTrue, get_or-set_other, with_found, Sound, both_true, op_keeps, step_of, room_in, IsArenas, record_after, record_at, spaces_of, reply_in, records_turned, with_chunk_found, met_by_alloc, met_by_dalloc, others_of, mine_in, CanTurn, after_turn, AsksLeadOn, OthersStay, TurnsLeadOn, WaitsNext, Record, IsReplayed, Comes, StartsSit, AsksSit, OthersSit, StarvesSit, TurnsSit, AreApart, AreArenas, CanTake}
 use Rattle.heap_core.proofs.Turned.{arenas_turned, one_owner}
 use Rattle.recorded_arena.proofs.Turning.{replayed_more, replayed_sound}
 use Rattle.sits.proofs.Begins as begins

@@ -7,4 +7,5 @@ pub mod Sitting
 pub mod Changes
 pub mod Wanting
 pub mod Making
+pub mod Carrying
 pub mod LastAsk

@@ -1,5 +1,5 @@
 -- What a turn in one of the arenas leaves of all of them.
-use Rattle.heap_core.proofs.Words.{AreApart, inr, ◌≡◌, ℕ, ◌/◌, ◌<◌, ◌^◌, ◌==◌, true, false, cond, List, [], Option, Result, Ok, Err, OnOk, OnErr, length, nat_lt, map, slice_set, get_or, refl, sym, ◌∙◌, ap, subst, arith, IsTrue, list_any, range_with_len, nat_tests, same_number_lists, get_or-map-range_with_len, get_or-range_with_len, Journal, IsByIndex, get_or_default, length-map, length-set, map-set, set-get_or, get_or-map, any_counts, chunk_span, has_page, meets, op_stands, stands, step_of, replay, absent_space, first_space, both_true, entry_of, Op, Space, Sound, AskFacts, AreRecorded, IsArenas, journal_of, no_record, opening_record, opening_records, record_after, record_at, spaces_of, Apart, owns_chunk, with_chunk_found, space_at, IsReplayed, Record, opening_space, zero-add, cases_lt, inl}
+use Rattle.heap_core.proofs.Words.{AreApart, inr, ◌≡◌, ℕ, ◌/◌, ◌<◌, ◌^◌, ◌==◌, true, false, cond, List, [], Option, Result, Ok, Err, OnOk, OnErr, length, nat_lt, map, slice_set, get_or, refl, sym, ◌∙◌, ap, subst, arith, IsTrue, list_any, range_with_len, nat_tests, same_number_lists, get_or-map-range_with_len, get_or-range_with_len, Journal, IsByIndex, get_or_default, length-map, length-set, map-set, set-get_or, get_or-map, any_counts, chunk_span, has_page, meets, op_stands, stands, step_of, absent_space, first_space, both_true, entry_of, Op, Space, Sound, AskFacts, AreRecorded, IsArenas, journal_of, no_record, opening_record, opening_records, record_after, record_at, spaces_of, Apart, owns_chunk, with_chunk_found, space_at, IsReplayed, Record, opening_space, zero-add, cases_lt, inl}
 use Rattle.heap_core.proofs.Owning.{apart_turn, page_owned}
 use Rattle.recorded_arena.proofs.Turning.{replayed_sound}
 use Rattle.sits.proofs.Indexes.{by_arena, past}

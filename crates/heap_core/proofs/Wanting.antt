@@ -1,5 +1,5 @@
 -- What a client's open call wants, and where a step for it leads.
-use Rattle.heap_core.proofs.Words.{◌≡◌, ◌≤◌, ℕ, ◌+◌, true, false, List, Option, None, Some, IfSome, IsSomeAnd, refl, sym, ap, subst, ◌∙◌, arith, opens, Item, Told, Starved, Answered, NoMemory, Point, Next, Go, Ends, Op, Ask, AskFacts, DeskFacts, Need, NeedsTurn, NeedsAsk, Turn, CallFacts, moment_of, desk_fed, Goes, NeedIs, NeedsWant, heard_next, Moment, Stage, after, moved, named, named_call, moment_at, begins_named, not_holding, option_map, aimed, taken_next, step_next, Want, WantTurn, WantAsk, is_marked, step, want, room_in, FedTo, never_starves, HeapFacts, asks_at, asks_next, owing, Record, Seat, answer_of, heard_by, seat_at, seat_of, IsSeated, SeatSound, Sits, SitsAt, IsMarked, Needs, StarvesAt, StarvesNext, TakesAt, nat_tests, Request, Replied, Filling, Skipping, Turns, Asks, Over, Nothing, begin, begin_desk, begin_stage, closed, stage, Held, HasRoomToHold, started, ended_by, open_call}
+use Rattle.heap_core.proofs.Words.{◌≡◌, ◌≤◌, ℕ, ◌+◌, true, false, List, Option, None, Some, IfSome, IsSomeAnd, refl, sym, ap, subst, ◌∙◌, arith, opens, Item, Told, Starved, Answered, NoMemory, Point, Next, Go, Ends, Op, Ask, AskFacts, DeskFacts, NeedsTurn, NeedsAsk, Turn, CallFacts, moment_of, desk_fed, Goes, NeedIs, NeedsWant, heard_next, Moment, Stage, after, moved, named, named_call, moment_at, begins_named, not_holding, option_map, aimed, taken_next, step_next, Want, WantTurn, WantAsk, is_marked, step, want, room_in, FedTo, never_starves, HeapFacts, asks_at, asks_next, owing, Record, Seat, answer_of, heard_by, seat_at, seat_of, IsSeated, SeatSound, Sits, SitsAt, IsMarked, Needs, StarvesAt, StarvesNext, TakesAt, nat_tests, Request, Replied, Filling, Skipping, Turns, Asks, Over, Nothing, begin, begin_desk, begin_stage, closed, stage, Held, HasRoomToHold, started, ended_by, open_call}
 use Rattle.std.specs.Prelude.{Result, Ok, Err, OnOk, OnErr}
 use Rattle.call_plan.specs.Desks.{meant, ready}
 use Rattle.std.proofs.lemmas.Bool.{cond_both}

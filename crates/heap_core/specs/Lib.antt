@@ -1,6 +1,7 @@
 pub mod Words
 pub mod Arenas
 pub mod Chunks
+pub mod Carrying
 pub mod Clients
 pub mod Feeding
 pub mod Heaps

@@ -2,6 +2,7 @@
 #![tactic(auto)]
 
 mod arenas;
+mod carry;
 mod heaps;
 mod laws;
 mod logs;

@@ -16,8 +16,8 @@ use thread_cache::Held;
 /// may come to hold. Contracts see the call with the regions named that go back next.
 #[derive(Drop)]
 pub struct Client {
-    desk: Desk,
-    call: Option<Call>,
+    pub(crate) desk: Desk,
+    pub(crate) call: Option<Call>,
 }
 
 impl Model for Client {
@@ -33,7 +33,7 @@ impl Model for Client {
 }
 
 /// Keeps a call only while it is open. Its answer is told, once it has ended.
-fn settle(place: &mut Option<Call>, ended: &mut Option<Answered>)
+pub(crate) fn settle(place: &mut Option<Call>, ended: &mut Option<Answered>)
     ensures open { IfSome place.old (λ call. (desk : DeskFacts) → place.new ≡ open_call call.client (moment_of call desk) call.stage.next) }
     ensures answer { IfSome place.old (λ call. ended.new ≡ ended_by call.stage.next) }
 {

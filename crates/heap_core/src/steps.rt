@@ -40,7 +40,7 @@ fn promise(log: &mut AskLog, arena: &Arena, client: u32, op: &Op) -> Result<(), 
 /// A turn in one of the arenas, with places for the asks that may follow it. The reply is written into the place for it. Where
 /// memory is wanting, nothing else changes. The operation is from then on as it entered the journal.
 #[inline(always)]
-fn make_turn(
+pub(crate) fn make_turn(
     arenas: &mut Arenas,
     log: &mut AskLog,
     turn: &mut Turn,
