@@ -30,5 +30,6 @@ pub mod Trims
 pub mod Unheld
 pub mod Holding
 pub mod Idle
+pub mod Carries
 pub mod Alone
 pub mod Reallocs

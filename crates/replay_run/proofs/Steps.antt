@@ -124,7 +124,7 @@ brought {from} {lines} {before} {now} so event awaits c line shown told heap she
     came_next so.came leads
 
 -- the replay came behind the step, by which the call ended or goes on
-step_came : {from : Outset} {lines : List Line} {awaits : Awaits} {now : Now} (so : Here from lines awaits [] now) (c : ℕ) (told : Stepped) (heap : HeapFacts) (shelf : Shelf) (held : Option (List ℕ)) →
+pub step_came : {from : Outset} {lines : List Line} {awaits : Awaits} {now : Now} (so : Here from lines awaits [] now) (c : ℕ) (told : Stepped) (heap : HeapFacts) (shelf : Shelf) (held : Option (List ℕ)) →
     client_awaited awaits ≡ Some c → has_open_call now.heap c ≡ true → IsStep now.heap now.shelf c (seat_at now.heap.seats c).call told heap shelf → IsSound heap → told.ended ≢ Some NoMemory → goes_on (call_at now.calls c) told.ended ≡ None →
     Reached from lines (awaits_after awaits (is_none told.ended)) [] (so.text ++ step_line (is_one_step awaits) c now.calls told heap) (now_stepped now c told heap shelf held)
 step_came {from} {lines} {awaits} {now} so c told heap shelf held awaited is step sound memory none =

@@ -25,6 +25,7 @@ use crate::names::Names;
 use crate::prints::print;
 use crate::state::State;
 use crate::sweeps::{OpenCall, Sweep, goes_on};
+use crate::wholes::{carry_whole, usual_request};
 use call_plan::{Answered, Request};
 use ctl_names::read;
 use edge_io::Sink;
@@ -189,7 +190,7 @@ fn print_shown<K: Sink>(
 }
 
 /// Whether memory was wanting in a step.
-fn is_starved(told: &Stepped) -> bool
+pub fn is_starved(told: &Stepped) -> bool
     ensures fed { result ≡ false → told.now.ended ≢ Some WasStarved }
     ensures starved { result ≡ true → told.now.ended ≡ Some WasStarved }
 {
@@ -335,7 +336,7 @@ pub fn step_once<K: Sink, H: ExtentHooks>(
 }
 
 /// Prints the answer of a call that has ended where it began, and binds its name. A buffer is lent for the line.
-fn answer_call<K: Sink>(
+pub fn answer_call<K: Sink>(
     text: &mut Vec<u8>,
     sink: &mut K,
     names: &mut Names,
@@ -446,7 +447,8 @@ fn begin_call<K: Sink>(
 }
 
 /// Runs a client's open call to its end, if it has one, and prints its answer.
-pub fn run_to_end<K: Sink, H: ExtentHooks>(
+#[inline(never)]
+fn run_steps<K: Sink, H: ExtentHooks>(
     alloc: Global,
     sink: &mut K,
     shelf: &mut HookShelf<H>,
@@ -470,6 +472,60 @@ pub fn run_to_end<K: Sink, H: ExtentHooks>(
     Ok(())
 }
 
+/// The same, by a test alone where it has none.
+#[inline(always)]
+pub fn run_to_end<K: Sink, H: ExtentHooks>(
+    alloc: Global,
+    sink: &mut K,
+    shelf: &mut HookShelf<H>,
+    state: &mut State,
+    client: u32,
+) -> Result<(), Stop>
+    requires { client < 32 }
+    ensures goes { (from : Outset) (lines : List Line) (awaits : Awaits) → client_awaited awaits ≡ Some client → is_one_step awaits ≡ false
+        → Here from lines (awaits_after awaits (has_open_call state.old.heap client)) [] (now_of state.old shelf.old (K.held sink.old))
+        → GoesOn from lines (awaits_after awaits false) result (now_of state.new shelf.new (K.held sink.new)) }
+    ensures rests { OnOk result (has_open_call state.new.heap client ≡ false) }
+    ensures cause { IfErr result (λ stop. HasStopCause stop 0 0 (K.faults sink.old) (K.faults sink.new)) }
+    ensures unfailed { OnOk result (K.faults sink.new ≡ K.faults sink.old) }
+    ensures counts { K.faults sink.old ≤ K.faults sink.new }
+{
+    if state.heap.has_call(client) {
+        run_steps(alloc, sink, shelf, state, client)
+    } else {
+        Ok(())
+    }
+}
+
+/// Carries out the call of a line, of a client that has none open: whole, or else its beginning alone.
+#[inline(never)]
+fn carry_any<K: Sink, H: ExtentHooks>(
+    alloc: Global,
+    sink: &mut K,
+    shelf: &mut HookShelf<H>,
+    state: &mut State,
+    client: u32,
+    verb: Verb,
+    whole: bool,
+) -> Result<(), Stop>
+    requires client { client < 32 }
+    requires limits { IsVerbWithinLimits verb }
+    requires rests { has_open_call state.old.heap client ≡ false }
+    ensures goes { (from : Outset) (lines : List Line)
+        → Here from lines (TheStart client verb whole) [] (now_of state.old shelf.old (K.held sink.old))
+        → GoesOn from lines Nothing result (now_of state.new shelf.new (K.held sink.new)) }
+    ensures cause { IfErr result (λ stop. HasStopCause stop 0 0 (K.faults sink.old) (K.faults sink.new)) }
+    ensures unfailed { OnOk result (K.faults sink.new ≡ K.faults sink.old) }
+    ensures counts { K.faults sink.old ≤ K.faults sink.new }
+{
+    begin_call(alloc, sink, state, client, verb)?;
+    if whole {
+        run_to_end(alloc, sink, shelf, state, client)
+    } else {
+        Ok(())
+    }
+}
+
 /// Carries out the call of a line, behind the end of its client's open one: whole, or else its beginning alone.
 pub fn carry_call<K: Sink, H: ExtentHooks>(
     alloc: Global,
@@ -490,10 +546,10 @@ pub fn carry_call<K: Sink, H: ExtentHooks>(
     ensures counts { K.faults sink.old ≤ K.faults sink.new }
 {
     run_to_end(alloc, sink, shelf, state, client)?;
-    begin_call(alloc, sink, state, client, verb)?;
-    if whole {
-        run_to_end(alloc, sink, shelf, state, client)
-    } else {
-        Ok(())
+    if whole && state.calls[client as usize].is_none() {
+        if let Some(request) = usual_request(&state.names, &verb) {
+            return carry_whole(alloc, sink, shelf, state, client, verb, request);
+        }
     }
+    carry_any(alloc, sink, shelf, state, client, verb, whole)
 }

@@ -19,6 +19,7 @@ mod soaks;
 mod state;
 mod sweeps;
 mod tally;
+mod wholes;
 
 pub use laws::{answers_have_causes, memaligns_are_aligned};
 pub use replays::{Closing, Replayed, replay};

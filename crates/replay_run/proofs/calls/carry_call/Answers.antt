@@ -1,5 +1,5 @@
-use Rattle.replay_run.proofs.Words.{refl, TheEnd, TheEndBefore, has_open_call}
-use Rattle.replay_run.proofs.Begins.{awaits_before, awaits_begun_only}
+use Rattle.replay_run.proofs.Words.{refl, TheEndBefore, has_open_call}
+use Rattle.replay_run.proofs.Begins.{awaits_before}
 use Rattle.replay_run.proofs.Stops.{goes_stop}
 use Rattle.replay_run.proofs.calls.carry_call.Goals as goal
 
@@ -9,23 +9,19 @@ returns-in_err-run_to_end-clause-goes g c = λ from lines so.
     goes_stop from lines _ c.from_residual.result c.in_err-run_to_end.field-0.0 _ c.from_residual.ensures.1
     (c.in_err-run_to_end.ensures.goes from lines (TheEndBefore c.args.client c.args.verb c.args.whole) refl refl waits)
 
-pub returns-in_err-begin_call-clause-goes : goal.returns-in_err-begin_call-clause-goes
-returns-in_err-begin_call-clause-goes g c = λ from lines so.
-    let waits = rw (awaits_before (has_open_call c.args.state.now.heap c.args.client) c.args.client c.args.verb c.args.whole) at so in
-    let ended = c.in_ok-run_to_end.ensures.goes from lines (TheEndBefore c.args.client c.args.verb c.args.whole) refl refl waits in
-    goes_stop from lines _ c.from_residual-in_err-begin_call.result c.in_err-begin_call.field-0.0 _ c.from_residual-in_err-begin_call.ensures.1
-    (c.in_err-begin_call.ensures.goes from lines c.args.whole _ ended)
+pub carry_whole-requires-clause-controls : goal.carry_whole-requires-clause-controls
+carry_whole-requires-clause-controls g c =
+    let state = c.run_to_end.new.state in
+    let same = rw c.in-Some.is at c.usual_request.ensures.controls in
+    same state.heap.records state.controls state.moment
 
-pub returns-then-whole-clause-goes : goal.returns-then-whole-clause-goes
-returns-then-whole-clause-goes g c = λ from lines so.
+pub returns-in-Some-clause-goes : goal.returns-in-Some-clause-goes
+returns-in-Some-clause-goes g c = λ from lines so.
     let waits = rw (awaits_before (has_open_call c.args.state.now.heap c.args.client) c.args.client c.args.verb c.args.whole) at so in
     let ended = c.in_ok-run_to_end.ensures.goes from lines (TheEndBefore c.args.client c.args.verb c.args.whole) refl refl waits in
-    let begun = c.in_ok-begin_call.ensures.goes from lines c.args.whole _ ended in
-    c.run_to_end-then-whole.ensures.goes from lines (TheEnd c.args.client) refl refl (rw c.if-whole.true at begun)
+    c.carry_whole.ensures.goes from lines (rw c.if-whole.true at ended)
 
-pub returns-else-whole-clause-goes : goal.returns-else-whole-clause-goes
-returns-else-whole-clause-goes g c = λ from lines so.
+pub returns-clause-goes : goal.returns-clause-goes
+returns-clause-goes g c = λ from lines so.
     let waits = rw (awaits_before (has_open_call c.args.state.now.heap c.args.client) c.args.client c.args.verb c.args.whole) at so in
-    let ended = c.in_ok-run_to_end.ensures.goes from lines (TheEndBefore c.args.client c.args.verb c.args.whole) refl refl waits in
-    let begun = c.in_ok-begin_call.ensures.goes from lines c.args.whole _ ended in
-    rw (c.if-whole.false, awaits_begun_only c.args.client (has_open_call c.begin_call.new.state.heap c.args.client)) at begun
+    c.carry_any.ensures.goes from lines (c.in_ok-run_to_end.ensures.goes from lines (TheEndBefore c.args.client c.args.verb c.args.whole) refl refl waits)

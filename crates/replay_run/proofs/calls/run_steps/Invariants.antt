@@ -1,5 +1,5 @@
 use Rattle.replay_run.proofs.Words.{◌≡◌, ◌-◌, Some, false, List, [], Line, client_awaited, Here, Outset, is_one_step, now_of, step_limit, steps_of, Awaits, awaits_after, has_open_call}
-use Rattle.replay_run.proofs.calls.run_to_end.Given as goal
+use Rattle.replay_run.proofs.calls.run_steps.Given as goal
 
 -- the call goes on, or has ended, and nothing failed
 abbrev pub invariant-steps : goal.invariant-steps

@@ -2,7 +2,7 @@ use Rattle.replay_run.proofs.Words.{arith, ◌≡◌, true, false, sym, ◌∙�
 use Rattle.replay_run.proofs.Begins.{awaits_going}
 use Rattle.replay_run.proofs.Longer.{steps_few}
 use Rattle.replay_run.proofs.Stops.{goes_stop}
-use Rattle.replay_run.proofs.calls.run_to_end.Goals as goal
+use Rattle.replay_run.proofs.calls.run_steps.Goals as goal
 
 pub returns-in_err-step_once-clause-goes : goal.returns-in_err-step_once-clause-goes
 returns-in_err-step_once-clause-goes g c = λ from lines awaits awaited shown so.
