@@ -114,7 +114,7 @@ pub(crate) fn rising(rt: &impl Abort, alloc: Global) -> HookShelf<RisingHooks> {
 }
 
 /// A new heap.
-fn new_heap(rt: &impl Abort, alloc: Global) -> Heap {
+pub(crate) fn new_heap(rt: &impl Abort, alloc: Global) -> Heap {
     Heap::new(alloc).expect(rt, "memory for a heap")
 }
 
@@ -137,7 +137,7 @@ fn start(
 }
 
 /// Carries a call of a client out, to its answer.
-fn carry_out(
+pub(crate) fn carry_out(
     rt: &impl Abort,
     heap: &mut Heap,
     shelf: &mut HookShelf<RisingHooks>,
@@ -159,7 +159,7 @@ fn carry_out(
 }
 
 /// The address of the region that a call gave.
-fn region(answer: Option<Answered>) -> Option<u64> {
+pub(crate) fn region(answer: Option<Answered>) -> Option<u64> {
     match answer {
         Some(Answered::Ok(Given::Region { addr, .. })) => Some(addr),
         _ => None,
