@@ -5,7 +5,8 @@ ghost use Rattle.call_plan.specs.Table.{alloc_of, answered_span, ask_at, committ
 ghost use Rattle.call_plan.specs.Points.{IsSized};
 ghost use Rattle.call_plan.specs.Stages.{led};
 
-use crate::{Answered, AskPoint, Lead, TurnPoint, Wish};
+use crate::calls::{ask, turn};
+use crate::{Answered, AskPoint, Lead, Need, Resize, TurnPoint, Wish};
 use hook_api::Asked;
 use size_classes::class_pages;
 use space_model::{Answer, Ask, CHUNK_PAGES, Op, Reply, Span};
@@ -18,6 +19,13 @@ fn answered_span(pages: u64, answer: Answer) -> Span
         Answer::Placed { first, .. } => Span { first, pages },
         Answer::Done | Answer::Refused => Span { first: 0, pages },
     }
+}
+
+/// `need` becomes the ask for a split of so many pages off an extent.
+fn put_split(arena: u32, span: Span, left: u64, need: &mut Need)
+    ensures { need.new ≡ Need.Ask arena (Ask.Split span left) }
+{
+    *need = ask(arena, Ask::Split { span, left });
 }
 
 impl Wish {
@@ -42,177 +50,181 @@ impl Wish {
     }
 
     /// After the split of what stands before the run.
-    fn skipped(self, committed: bool, reply: &Reply) -> Lead
-        ensures { led result None ≡ skipped self committed reply.now }
+    fn skipped(self, committed: bool, reply: &Reply, lead: &mut Lead)
+        ensures { led lead.new None ≡ skipped self committed reply.now }
     {
         match *reply {
-            Reply::Cut(high) => self.trim(high, committed),
-            Reply::Whole => self.need_chunks(),
-            _ => Lead::Nowhere,
+            Reply::Cut(high) => self.trim(high, committed, lead),
+            Reply::Whole => *lead = self.need_chunks(),
+            _ => *lead = Lead::Nowhere,
         }
     }
 
     /// After the split of what stands behind the run, or of a grant of more chunks than are needed.
-    fn trimmed(self, committed: bool, reply: &Reply) -> Lead
-        ensures { led result None ≡ trimmed self committed reply.now }
+    fn trimmed(self, committed: bool, reply: &Reply, lead: &mut Lead)
+        ensures { led lead.new None ≡ trimmed self committed reply.now }
     {
         match *reply {
-            Reply::Cut(low) => self.commit(low, committed),
-            Reply::Whole => self.need_chunks(),
-            _ => Lead::Nowhere,
+            Reply::Cut(low) => self.commit(low, committed, lead),
+            Reply::Whole => *lead = self.need_chunks(),
+            _ => *lead = Lead::Nowhere,
         }
     }
 
     /// After the alloc of more chunks than are needed.
-    fn grown(self, chunks: u64, answer: Answer, reply: &Reply) -> Lead
+    fn grown(self, chunks: u64, answer: Answer, reply: &Reply, lead: &mut Lead)
         requires { chunks ≤ 16384 }
-        ensures { led result None ≡ grown self chunks answer reply.now }
+        ensures { led lead.new None ≡ grown self chunks answer reply.now }
     {
         match *reply {
-            Reply::Refused => self.need_chunks(),
-            Reply::Bad(why) => Lead::Ends(Answered::BadAnswer {
-                span: answered_span(chunks * CHUNK_PAGES, answer),
-                why,
-            }),
-            Reply::Grown { span, committed } => AskPoint::Paring {
-                wish: self,
-                span,
-                committed,
+            Reply::Refused => *lead = self.need_chunks(),
+            Reply::Bad(why) => {
+                let span = answered_span(chunks * CHUNK_PAGES, answer);
+                *lead = Lead::Ends(Answered::BadAnswer { span, why });
             }
-            .first(),
-            _ => Lead::Nowhere,
+            Reply::Grown { span, committed } => {
+                let wish = self;
+                *lead = AskPoint::Paring {
+                    wish,
+                    span,
+                    committed,
+                }
+                .first();
+            }
+            _ => *lead = Lead::Nowhere,
         }
     }
 
     /// After the alloc of as many chunks as are needed.
-    fn needed(self, asked: &Asked, reply: &Reply) -> Lead
+    fn needed(self, asked: &Asked, reply: &Reply, lead: &mut Lead)
         requires { self.pages ≤ 2 ^ 32 }
-        ensures { led result None ≡ needed self asked.now reply.now }
+        ensures { led lead.new None ≡ needed self asked.now reply.now }
     {
         match *reply {
-            Reply::Refused => Lead::Ends(Answered::Refused(*asked)),
-            Reply::Bad(why) => Lead::Ends(Answered::BadAnswer {
-                span: answered_span(self.chunk_pages(), asked.answer()),
-                why,
-            }),
-            Reply::Grown { span, committed } => self.grant(span, committed),
-            _ => Lead::Nowhere,
+            Reply::Refused => *lead = Lead::Ends(Answered::Refused(*asked)),
+            Reply::Bad(why) => {
+                let span = answered_span(self.chunk_pages(), asked.answer());
+                *lead = Lead::Ends(Answered::BadAnswer { span, why });
+            }
+            Reply::Grown { span, committed } => self.grant(span, committed, lead),
+            _ => *lead = Lead::Nowhere,
         }
     }
 
     /// After the split of what that granted.
-    fn granted(self, committed: bool, asked: &Asked, reply: &Reply) -> Lead
-        ensures { led result None ≡ grant_split self committed asked.now reply.now }
+    fn granted(self, committed: bool, asked: &Asked, reply: &Reply, lead: &mut Lead)
+        ensures { led lead.new None ≡ grant_split self committed asked.now reply.now }
     {
         match *reply {
-            Reply::Cut(low) => self.commit(low, committed),
-            Reply::Whole => Lead::Ends(Answered::Refused(*asked)),
-            _ => Lead::Nowhere,
+            Reply::Cut(low) => self.commit(low, committed, lead),
+            Reply::Whole => *lead = Lead::Ends(Answered::Refused(*asked)),
+            _ => *lead = Lead::Nowhere,
         }
     }
 
     /// After a commit.
-    fn committed(self, span: Span, asked: &Asked, reply: &Reply) -> Lead
-        ensures { led result None ≡ committed self span asked.now reply.now }
+    fn committed(self, span: Span, asked: &Asked, reply: &Reply, lead: &mut Lead)
+        ensures { led lead.new None ≡ committed self span asked.now reply.now }
     {
         match *reply {
-            Reply::Noted => TurnPoint::Landing(self, span).next(),
-            Reply::Whole => Lead::Ends(Answered::Refused(*asked)),
-            _ => Lead::Nowhere,
+            Reply::Noted => *lead = TurnPoint::Landing(self, span).next(),
+            Reply::Whole => *lead = Lead::Ends(Answered::Refused(*asked)),
+            _ => *lead = Lead::Nowhere,
         }
     }
 }
 
 impl AskPoint {
-    /// The ask.
-    pub(crate) fn ask(&self) -> Ask
+    /// `need` becomes the ask of the box of the arena with this index, written where it stands.
+    pub(crate) fn put_ask(&self, arena: u32, need: &mut Need)
         requires { IsSized self.now }
-        ensures { result ≡ ask_at self.now }
+        ensures { need.new ≡ Need.Ask arena (ask_at self.now) }
     {
         match *self {
-            AskPoint::Skipping { span, skip, .. } => Ask::Split { span, left: skip },
+            AskPoint::Skipping { span, skip, .. } => put_split(arena, span, skip, need),
             AskPoint::Trimming { wish, span, .. }
             | AskPoint::Paring { wish, span, .. }
-            | AskPoint::Granting { wish, span, .. } => {
-                let left = wish.pages;
-                Ask::Split { span, left }
+            | AskPoint::Granting { wish, span, .. } => put_split(arena, span, wish.pages, need),
+            AskPoint::Growing(wish, chunks) => {
+                *need = ask(arena, wish.alloc(chunks * CHUNK_PAGES));
             }
-            AskPoint::Growing(wish, chunks) => wish.alloc(chunks * CHUNK_PAGES),
-            AskPoint::Needing(wish) => wish.alloc(wish.chunk_pages()),
-            AskPoint::Committing(_, span) => Ask::Commit(span),
-            AskPoint::Merging { low, high, .. } => Ask::Merge { low, high },
-            AskPoint::Easing(span, _) => Ask::PurgeLazy(span),
+            AskPoint::Needing(wish) => *need = ask(arena, wish.alloc(wish.chunk_pages())),
+            AskPoint::Committing(_, span) => *need = ask(arena, Ask::Commit(span)),
+            AskPoint::Merging { low, high, .. } => *need = ask(arena, Ask::Merge { low, high }),
+            AskPoint::Easing(span, _) => *need = ask(arena, Ask::PurgeLazy(span)),
             AskPoint::Returning(span, _) => {
                 let committed = true;
-                Ask::Dalloc { span, committed }
+                *need = ask(arena, Ask::Dalloc { span, committed });
             }
-            AskPoint::Decommitting(span, _) => Ask::Decommit(span),
-            AskPoint::Forcing(span, _) => Ask::PurgeForced(span),
-            AskPoint::Cutting(resize) => Ask::Split {
-                span: resize.span(),
-                left: class_pages(resize.class),
-            },
-            AskPoint::Extending(resize) => resize.alloc(),
-            AskPoint::Sparing { resize, span, .. } => Ask::Split {
-                span,
-                left: resize.lacks(),
-            },
-            AskPoint::Backing(_, span) => Ask::Commit(span),
-            AskPoint::Joining(resize, span) => Ask::Merge {
-                low: resize.span(),
-                high: span,
-            },
+            AskPoint::Decommitting(span, _) => *need = ask(arena, Ask::Decommit(span)),
+            AskPoint::Forcing(span, _) => *need = ask(arena, Ask::PurgeForced(span)),
+            AskPoint::Cutting(resize) => {
+                put_split(arena, resize.span(), class_pages(resize.class), need);
+            }
+            AskPoint::Extending(resize) => *need = ask(arena, resize.alloc()),
+            AskPoint::Sparing { resize, span, .. } => put_split(arena, span, resize.lacks(), need),
+            AskPoint::Backing(_, span) => *need = ask(arena, Ask::Commit(span)),
+            AskPoint::Joining(resize, span) => {
+                let (low, high) = (resize.span(), span);
+                *need = ask(arena, Ask::Merge { low, high });
+            }
         }
     }
 
-    /// The operation that takes its answer in.
-    pub(crate) fn done(&self, asked: &Asked) -> Op
-        ensures { result ≡ done_at self.now asked.now }
+    /// `need` becomes the turn that takes the answer of the ask in, written where it stands.
+    pub(crate) fn put_done(&self, asked: &Asked, arena: u32, client: u32, need: &mut Need)
+        ensures { need.new ≡ Need.Turn (record { arena = arena; client = client; op = done_at self.now asked.now }) }
     {
         let heard = asked.heard();
         match *self {
             AskPoint::Skipping { .. } => {
                 let keep_low = false;
-                Op::CutDone { heard, keep_low }
+                *need = turn(arena, client, Op::CutDone { heard, keep_low });
             }
             AskPoint::Trimming { .. }
             | AskPoint::Paring { .. }
             | AskPoint::Granting { .. }
             | AskPoint::Sparing { .. } => {
                 let keep_low = true;
-                Op::CutDone { heard, keep_low }
+                *need = turn(arena, client, Op::CutDone { heard, keep_low });
             }
             AskPoint::Growing(..) | AskPoint::Needing(_) | AskPoint::Extending(_) => {
-                Op::GrowDone { heard, found: None }
+                *need = turn(arena, client, Op::GrowDone { heard, found: None });
             }
-            AskPoint::Committing(..) | AskPoint::Backing(..) => Op::CommitDone { heard },
-            AskPoint::Merging { own_low, .. } => Op::MergeDone { heard, own_low },
-            AskPoint::Easing(..) => Op::LazyDone { heard },
-            AskPoint::Returning(..) => Op::OfferDone { heard, found: None },
-            AskPoint::Decommitting(..) => Op::DecommitDone { heard },
-            AskPoint::Forcing(..) => Op::ForcedDone { heard },
-            AskPoint::Cutting(resize) => Op::TrimDone {
-                heard,
-                class: resize.class,
-            },
-            AskPoint::Joining(resize, _) => Op::JoinDone {
-                heard,
-                class: resize.class,
-            },
+            AskPoint::Committing(..) | AskPoint::Backing(..) => {
+                *need = turn(arena, client, Op::CommitDone { heard });
+            }
+            AskPoint::Merging { own_low, .. } => {
+                *need = turn(arena, client, Op::MergeDone { heard, own_low });
+            }
+            AskPoint::Easing(..) => *need = turn(arena, client, Op::LazyDone { heard }),
+            AskPoint::Returning(..) => {
+                *need = turn(arena, client, Op::OfferDone { heard, found: None });
+            }
+            AskPoint::Decommitting(..) => {
+                *need = turn(arena, client, Op::DecommitDone { heard });
+            }
+            AskPoint::Forcing(..) => *need = turn(arena, client, Op::ForcedDone { heard }),
+            AskPoint::Cutting(Resize { class, .. }) => {
+                *need = turn(arena, client, Op::TrimDone { heard, class });
+            }
+            AskPoint::Joining(Resize { class, .. }, _) => {
+                *need = turn(arena, client, Op::JoinDone { heard, class });
+            }
         }
     }
 
     /// Where the reply to the turn leads that took the answer in.
-    pub(crate) fn told(&self, asked: &Asked, reply: &Reply) -> Lead
+    pub(crate) fn told(&self, asked: &Asked, reply: &Reply, lead: &mut Lead)
         requires { IsSized self.now }
-        ensures { led result None ≡ told self.now asked.now reply.now }
+        ensures { led lead.new None ≡ told self.now asked.now reply.now }
     {
         match *self {
             AskPoint::Skipping {
                 wish,
                 committed,
                 ..
-            } => wish.skipped(committed, reply),
+            } => wish.skipped(committed, reply, lead),
             AskPoint::Trimming {
                 wish,
                 committed,
@@ -222,34 +234,34 @@ impl AskPoint {
                 wish,
                 committed,
                 ..
-            } => wish.trimmed(committed, reply),
-            AskPoint::Growing(wish, chunks) => wish.grown(chunks, asked.answer(), reply),
-            AskPoint::Needing(wish) => wish.needed(asked, reply),
+            } => wish.trimmed(committed, reply, lead),
+            AskPoint::Growing(wish, chunks) => wish.grown(chunks, asked.answer(), reply, lead),
+            AskPoint::Needing(wish) => wish.needed(asked, reply, lead),
             AskPoint::Granting {
                 wish,
                 committed,
                 ..
-            } => wish.granted(committed, asked, reply),
-            AskPoint::Committing(wish, span) => wish.committed(span, asked, reply),
+            } => wish.granted(committed, asked, reply, lead),
+            AskPoint::Committing(wish, span) => wish.committed(span, asked, reply, lead),
             AskPoint::Merging {
                 own_low,
                 fresh,
                 then,
                 ..
-            } => then.merged(own_low, fresh, reply),
-            AskPoint::Easing(span, then) => then.eased(span, reply),
-            AskPoint::Returning(span, then) => then.returned(span, reply),
-            AskPoint::Decommitting(span, then) => then.decommitted(span, reply),
-            AskPoint::Forcing(span, then) => then.forced(span, reply),
-            AskPoint::Cutting(resize) => resize.narrowed(reply),
-            AskPoint::Extending(resize) => resize.extended(reply),
+            } => then.merged(own_low, fresh, reply, lead),
+            AskPoint::Easing(span, then) => then.eased(span, reply, lead),
+            AskPoint::Returning(span, then) => then.returned(span, reply, lead),
+            AskPoint::Decommitting(span, then) => then.decommitted(span, reply, lead),
+            AskPoint::Forcing(span, then) => then.forced(span, reply, lead),
+            AskPoint::Cutting(resize) => resize.narrowed(reply, lead),
+            AskPoint::Extending(resize) => resize.extended(reply, lead),
             AskPoint::Sparing {
                 resize,
                 committed,
                 ..
-            } => resize.spared(committed, reply),
-            AskPoint::Backing(resize, span) => resize.backed(span, reply),
-            AskPoint::Joining(resize, _) => resize.widened(reply),
+            } => resize.spared(committed, reply, lead),
+            AskPoint::Backing(resize, span) => resize.backed(span, reply, lead),
+            AskPoint::Joining(resize, _) => resize.widened(reply, lead),
         }
     }
 }

@@ -18,6 +18,7 @@ use size_classes::{Addrs, class_pages};
 use space_model::{Addresses, Ask, Op};
 use std::alloc::{AllocError as NoMemory, Global};
 use std::marker::Model;
+use std::mem;
 
 /// Where a call stands: the arena whose turn or ask it waits for, and the place, or its answer. What a hook answered stands
 /// beside the place until a turn takes it in. Contracts see the arena, and the point or the answer.
@@ -52,14 +53,14 @@ fn copied(alloc: Global, addrs: &Addresses) -> Result<Addresses, NoMemory>
 }
 
 /// A turn of an arena.
-fn turn(arena: u32, client: u32, op: Op) -> Need
+pub(crate) fn turn(arena: u32, client: u32, op: Op) -> Need
     ensures { result ≡ Need.Turn (record { arena = arena; client = client; op = op }) }
 {
     Need::Turn(Turn { arena, client, op })
 }
 
 /// An ask of an arena's box of hooks.
-fn ask(arena: u32, ask: Ask) -> Need
+pub(crate) fn ask(arena: u32, ask: Ask) -> Need
     ensures { result ≡ Need.Ask arena ask }
 {
     Need::Ask { arena, ask }
@@ -224,22 +225,27 @@ impl Stage {
         self.lead = lead;
     }
 
-    /// It stands where a step leads, by what the client has then. Takes no memory: the regions that go back are named at their
-    /// turn.
-    fn settle(&mut self, alloc: Global, request: &Request, desk: &mut Desk, lead: Lead)
-        requires none { GivesNone (led lead None) }
-        requires sized { IsSizedNext (led lead None) }
-        ensures stage { named request.now desk.new.facts self.new ≡ settle request.now desk.old.facts self.old.arena (led lead None) }
-        ensures facts { desk.new.facts ≡ desk_led desk.old.facts (led lead None) }
+    /// Where a step led to no place yet, it stands at the one that this comes to by what the client has then. Takes no memory: the
+    /// regions that go back are named at their turn.
+    fn settle(&mut self, alloc: Global, request: &Request, desk: &mut Desk)
+        requires none { GivesNone self.old.next }
+        requires sized { IsSizedNext self.old.next }
+        ensures stage { named request.now desk.new.facts self.new ≡ settle request.now desk.old.facts self.old.arena self.old.next }
+        ensures facts { desk.new.facts ≡ desk_led desk.old.facts self.old.next }
         ensures room { desk.new.room ≡ desk.old.room }
         ensures sized { IsSizedNext self.new.next }
     {
-        match lead {
-            Lead::Over(arena, point) => self.stand(arena, Lead::Turns(point)),
+        match self.lead {
             Lead::More => self.go_on(alloc, request, desk),
             Lead::Move(class) => self.move_to(alloc, request, class, desk),
             Lead::Gone => self.go(Lead::Ends(Answered::NoArena(self.arena))),
-            lead => self.go(lead),
+            Lead::Over(..) => {
+                let lead = mem::replace(&mut self.lead, Lead::Nowhere);
+                if let Lead::Over(arena, point) = lead {
+                    self.stand(arena, Lead::Turns(point));
+                }
+            }
+            _ => (),
         }
     }
 
@@ -276,18 +282,22 @@ impl Stage {
         }
     }
 
-    /// Where an item leads that isn't the answer to an ask.
-    fn step(&self, item: Item<'_>) -> Lead
-        requires sized { IsSizedNext self.now.next }
-        requires item { hears_next self.now.next (lent item) ≡ false }
-        ensures { led result None ≡ step_next self.now.next (lent item.entry) }
+    /// It stands where an item leads that isn't the answer to an ask.
+    fn step(&mut self, item: Item<'_>)
+        requires sized { IsSizedNext self.old.next }
+        requires item { hears_next self.old.next (lent item) ≡ false }
+        ensures { self.new ≡ stage self.old.arena (step_next self.old.next (lent item.entry)) }
     {
         match (&self.lead, &self.heard, item) {
-            (Lead::Turns(point), _, Item::Replied(reply)) => point.turned(reply),
-            (Lead::Turns(point), _, Item::Starved) => point.starved(),
-            (Lead::Asks(point), Some(asked), Item::Replied(reply)) => point.told(asked, reply),
-            (Lead::Tells(..), _, Item::Told(_)) => TurnPoint::Dooming.next(),
-            _ => Lead::Nowhere,
+            (Lead::Turns(_), _, Item::Replied(reply)) => self.lead.turned(reply),
+            (Lead::Turns(_), _, Item::Starved) => self.lead.starved(),
+            (Lead::Asks(point), Some(asked), Item::Replied(reply)) => {
+                let point = *point;
+                point.told(asked, reply, &mut self.lead);
+                self.heard = None;
+            }
+            (Lead::Tells(..), _, Item::Told(_)) => self.lead = TurnPoint::Dooming.next(),
+            _ => self.go(Lead::Nowhere),
         }
     }
 
@@ -312,8 +322,8 @@ impl Stage {
     {
         match (&self.lead, &self.heard) {
             (Lead::Turns(point), _) => point.put_op(alloc, self.arena, client, need),
-            (Lead::Asks(point), None) => *need = ask(self.arena, point.ask()),
-            (Lead::Asks(point), Some(asked)) => *need = turn(self.arena, client, point.done(asked)),
+            (Lead::Asks(point), None) => point.put_ask(self.arena, need),
+            (Lead::Asks(point), Some(asked)) => point.put_done(asked, self.arena, client, need),
             (Lead::Tells(span, committed), _) => {
                 let (span, committed) = (*span, *committed);
                 *need = ask(self.arena, Ask::Destroy { span, committed });
@@ -359,8 +369,8 @@ impl Stage {
         if self.hear(item) {
             return;
         }
-        let lead = self.step(item);
-        self.settle(alloc, request, desk, lead);
+        self.step(item);
+        self.settle(alloc, request, desk);
     }
 }
 

@@ -25,62 +25,65 @@ impl Wish {
     }
 
     /// The extent has the pages: it is committed, or the regions land in it.
-    pub(crate) fn commit(self, span: Span, committed: bool) -> Lead
-        ensures { led result None ≡ commit self span committed }
+    pub(crate) fn commit(self, span: Span, committed: bool, lead: &mut Lead)
+        ensures { led lead.new None ≡ commit self span committed }
     {
         if committed {
-            Lead::Turns(TurnPoint::Landing(self, span))
+            *lead = TurnPoint::Landing(self, span).next();
         } else {
-            AskPoint::Committing(self, span).first()
+            *lead = AskPoint::Committing(self, span).first();
         }
     }
 
     /// A grant: what is too much of it is cut off.
-    pub(crate) fn grant(self, span: Span, committed: bool) -> Lead
-        ensures { led result None ≡ grant self span committed }
+    pub(crate) fn grant(self, span: Span, committed: bool, lead: &mut Lead)
+        ensures { led lead.new None ≡ grant self span committed }
     {
         if self.pages < span.pages {
-            AskPoint::Granting {
-                wish: self,
+            let wish = self;
+            *lead = AskPoint::Granting {
+                wish,
                 span,
                 committed,
             }
-            .first()
+            .first();
         } else {
-            self.commit(span, committed)
+            self.commit(span, committed, lead);
         }
     }
 
     /// An unused extent: what stands behind the run is cut off.
-    pub(crate) fn trim(self, span: Span, committed: bool) -> Lead
-        ensures { led result None ≡ trim self span committed }
+    pub(crate) fn trim(self, span: Span, committed: bool, lead: &mut Lead)
+        ensures { led lead.new None ≡ trim self span committed }
     {
         if self.pages < span.pages {
-            AskPoint::Trimming {
-                wish: self,
+            let wish = self;
+            *lead = AskPoint::Trimming {
+                wish,
                 span,
                 committed,
             }
-            .first()
+            .first();
         } else {
-            self.commit(span, committed)
+            self.commit(span, committed, lead);
         }
     }
 
     /// An unused extent: what stands before the run is cut off.
-    fn skip_to(self, span: Span, committed: bool, skip: u64) -> Lead
-        ensures { led result None ≡ skip_to self span committed skip }
+    fn skip_to(self, span: Span, committed: bool, skip: u64, lead: &mut Lead)
+        ensures { led lead.new None ≡ skip_to self span committed skip }
     {
         if 0 < skip {
-            AskPoint::Skipping {
-                wish: self,
+            let wish = self;
+            *lead = AskPoint::Skipping {
+                wish,
                 span,
                 committed,
                 skip,
             }
-            .first()
+            .first();
         } else {
-            self.trim(span, committed)
+            self.trim(span, committed, lead);
         }
     }
 
@@ -92,66 +95,67 @@ impl Wish {
     }
 
     /// The arena grows by the chunks of the series, if these are more than are needed.
-    fn grow(self, series: u64) -> Lead
-        ensures { led result None ≡ grow self series }
+    fn grow(self, series: u64, lead: &mut Lead)
+        ensures { led lead.new None ≡ grow self series }
     {
         let chunks = series.min(MAX_SERIES);
         if self.chunks() < chunks {
-            AskPoint::Growing(self, chunks).first()
+            *lead = AskPoint::Growing(self, chunks).first();
         } else {
-            self.need_chunks()
+            *lead = self.need_chunks();
         }
     }
 
     /// After the reply to the look for an unused extent.
-    pub(crate) fn looked(self, reply: &Reply) -> Lead
-        ensures { led result None ≡ turn_replied (TurnPoint.Looking self) reply.now }
+    pub(crate) fn looked(self, reply: &Reply, lead: &mut Lead)
+        ensures { led lead.new None ≡ turn_replied (TurnPoint.Looking self) reply.now }
     {
         match *reply {
             Reply::Took {
                 span,
                 committed,
                 skip,
-            } => self.skip_to(span, committed, skip),
-            Reply::Grow { series } => self.grow(series),
-            Reply::NoArena => Lead::Gone,
-            _ => Lead::Nowhere,
+            } => self.skip_to(span, committed, skip, lead),
+            Reply::Grow { series } => self.grow(series, lead),
+            Reply::NoArena => *lead = Lead::Gone,
+            _ => *lead = Lead::Nowhere,
         }
     }
 
     /// The region at the address is the answer, or takes the place of the one in hand.
-    fn got(self, addr: u64) -> Lead
-        ensures { led result None ≡ got self addr }
+    fn got(self, addr: u64, lead: &mut Lead)
+        ensures { led lead.new None ≡ got self addr }
     {
-        if self.moves {
-            return Lead::More;
-        }
         let class = self.class;
-        Lead::Ends(Answered::Ok(Given::Region { addr, class }))
+        if self.moves {
+            *lead = Lead::More;
+        } else {
+            *lead = Lead::Ends(Answered::Ok(Given::Region { addr, class }));
+        }
     }
 
     /// After the landing.
-    pub(crate) fn landed(self, reply: &Reply) -> Lead
-        ensures { (span : Span) → led result None ≡ turn_replied (TurnPoint.Landing self span) reply.now }
+    pub(crate) fn landed(self, reply: &Reply, lead: &mut Lead)
+        ensures { (span : Span) → led lead.new None ≡ turn_replied (TurnPoint.Landing self span) reply.now }
     {
         match *reply {
-            Reply::Landed { first, .. } => self.got(first),
-            _ => Lead::Nowhere,
+            Reply::Landed { first, .. } => self.got(first, lead),
+            _ => *lead = Lead::Nowhere,
         }
     }
 
     /// After free regions of a small class were looked for.
-    pub(crate) fn filled(self, reply: &Reply) -> Lead
-        ensures { (count : ℕ) → led result None ≡ turn_replied (TurnPoint.Filling self count) reply.now }
+    pub(crate) fn filled(self, reply: &Reply, lead: &mut Lead)
+        ensures { (count : ℕ) → led lead.new None ≡ turn_replied (TurnPoint.Filling self count) reply.now }
     {
         match *reply {
             Reply::Regions(ref addrs) => match addrs.as_slice().first() {
-                Some(addr) => self.got(*addr),
-                None => Lead::Nowhere,
+                Some(addr) => self.got(*addr, lead),
+                None => *lead = Lead::Nowhere,
             },
-            Reply::Nothing => Lead::Turns(TurnPoint::Looking(self)),
-            Reply::NoArena => Lead::Gone,
-            _ => Lead::Nowhere,
+            Reply::Nothing => *lead = Lead::Turns(TurnPoint::Looking(self)),
+            Reply::NoArena => *lead = Lead::Gone,
+            _ => *lead = Lead::Nowhere,
         }
     }
 }

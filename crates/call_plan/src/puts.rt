@@ -48,12 +48,16 @@ impl Visit {
     }
 
     /// What follows it: a visit of the dirty extents after that of the muzzy ones, where these are visited too, or the answer.
-    fn visited(&self) -> Lead
-        ensures { led result None ≡ visited self.now }
+    fn visited(&self, lead: &mut Lead)
+        ensures { led lead.new None ≡ visited self.now }
     {
         match (self.rest, self.other) {
-            (Rest::Muzzy, Some(keep)) => Visit::dirty(keep, Some(self.keep), self.told).first(),
-            _ => Lead::Ends(Answered::Ok(self.given())),
+            (Rest::Muzzy, Some(keep)) => *lead = Visit::dirty(
+                keep,
+                Some(self.keep),
+                self.told,
+            ).first(),
+            _ => *lead = Lead::Ends(Answered::Ok(self.given())),
         }
     }
 
@@ -65,31 +69,31 @@ impl Visit {
     }
 
     /// After an extent was taken, if one was.
-    pub(crate) fn took(&self, left: Option<u64>, reply: &Reply) -> Lead
-        ensures { led result None ≡ turn_replied (TurnPoint.Taking self.now left) reply.now }
+    pub(crate) fn took(&self, left: Option<u64>, reply: &Reply, lead: &mut Lead)
+        ensures { led lead.new None ≡ turn_replied (TurnPoint.Taking self.now left) reply.now }
     {
         match *reply {
             Reply::Taken { span, lazy, listed } => {
                 let left = left.unwrap_or(listed).saturating_sub(1);
-                Then::Visiting(*self, left).drop_extent(span, lazy)
+                Then::Visiting(*self, left).drop_extent(span, lazy, lead);
             }
-            Reply::Nothing => self.visited(),
-            Reply::NoArena => Lead::Gone,
-            _ => Lead::Nowhere,
+            Reply::Nothing => self.visited(lead),
+            Reply::NoArena => *lead = Lead::Gone,
+            _ => *lead = Lead::Nowhere,
         }
     }
 }
 
 impl Then {
     /// What follows once nothing is in flight.
-    fn onward(&self) -> Lead
-        ensures { led result None ≡ onward self.now }
+    fn onward(&self, lead: &mut Lead)
+        ensures { led lead.new None ≡ onward self.now }
     {
         match *self {
-            Then::Batches => Lead::More,
-            Then::Moving(class) => Lead::Move(class),
-            Then::Visiting(visit, 0) => visit.visited(),
-            Then::Visiting(visit, left) => TurnPoint::Taking(visit, Some(left)).next(),
+            Then::Batches => *lead = Lead::More,
+            Then::Moving(class) => *lead = Lead::Move(class),
+            Then::Visiting(visit, 0) => visit.visited(lead),
+            Then::Visiting(visit, left) => *lead = TurnPoint::Taking(visit, Some(left)).next(),
         }
     }
 
@@ -108,25 +112,25 @@ impl Then {
 
     /// The next extent in flight is put down, or there is none.
     #[inline(always)]
-    pub(crate) fn put_next(&self, next: Option<Span>) -> Lead
-        ensures { led result None ≡ put_next self.now next }
+    pub(crate) fn put_next(&self, next: Option<Span>, lead: &mut Lead)
+        ensures { led lead.new None ≡ put_next self.now next }
     {
         match next {
-            Some(own) => self.find(own, 0, true),
-            None => self.onward(),
+            Some(own) => *lead = self.find(own, 0, true),
+            None => self.onward(lead),
         }
     }
 
     /// The extent is merged with the neighbour that its look found.
-    fn beside(&self, own: Span, tries: u8, fresh: bool, other: Span) -> Lead
-        ensures { led result None ≡ beside own tries fresh other self.now }
+    fn beside(&self, own: Span, tries: u8, fresh: bool, other: Span, lead: &mut Lead)
+        ensures { led lead.new None ≡ beside own tries fresh other self.now }
     {
         if tries == 0 && u128::from(other.first) == own.end() {
-            self.merge(own, other, true, fresh)
+            *lead = self.merge(own, other, true, fresh);
         } else if tries < 2 {
-            self.merge(other, own, false, fresh)
+            *lead = self.merge(other, own, false, fresh);
         } else {
-            Lead::Nowhere
+            *lead = Lead::Nowhere;
         }
     }
 
@@ -159,88 +163,88 @@ impl Then {
     }
 
     /// An extent is purged lazily, or offered to its hook.
-    pub(crate) fn drop_extent(&self, span: Span, lazy: bool) -> Lead
-        ensures { led result None ≡ drop span lazy self.now }
+    pub(crate) fn drop_extent(&self, span: Span, lazy: bool, lead: &mut Lead)
+        ensures { led lead.new None ≡ drop span lazy self.now }
     {
         if lazy {
-            AskPoint::Easing(span, *self).first()
+            *lead = AskPoint::Easing(span, *self).first();
         } else {
-            TurnPoint::Offering(span, *self).next()
+            *lead = TurnPoint::Offering(span, *self).next();
         }
     }
 
     /// After the look for a neighbour.
-    pub(crate) fn found(&self, own: Span, tries: u8, fresh: bool, reply: &Reply) -> Lead
-        ensures { led result None ≡ turn_replied (TurnPoint.Finding own tries fresh self.now) reply.now }
+    pub(crate) fn found(&self, own: Span, tries: u8, fresh: bool, reply: &Reply, lead: &mut Lead)
+        ensures { led lead.new None ≡ turn_replied (TurnPoint.Finding own tries fresh self.now) reply.now }
     {
         match *reply {
-            Reply::Beside(other) => self.beside(own, tries, fresh, other),
-            Reply::Next(next) => self.put_next(next),
-            Reply::Purge { lazy } => self.drop_extent(own, lazy),
-            _ => Lead::Nowhere,
+            Reply::Beside(other) => self.beside(own, tries, fresh, other, lead),
+            Reply::Next(next) => self.put_next(next, lead),
+            Reply::Purge { lazy } => self.drop_extent(own, lazy, lead),
+            _ => *lead = Lead::Nowhere,
         }
     }
 
     /// After the offer of an extent.
-    pub(crate) fn offered(&self, span: Span, reply: &Reply) -> Lead
-        ensures { led result None ≡ turn_replied (TurnPoint.Offering span self.now) reply.now }
+    pub(crate) fn offered(&self, span: Span, reply: &Reply, lead: &mut Lead)
+        ensures { led lead.new None ≡ turn_replied (TurnPoint.Offering span self.now) reply.now }
     {
         match *reply {
-            Reply::Noted => AskPoint::Returning(span, *self).first(),
-            _ => Lead::Nowhere,
+            Reply::Noted => *lead = AskPoint::Returning(span, *self).first(),
+            _ => *lead = Lead::Nowhere,
         }
     }
 
     /// After a merge.
-    pub(crate) fn merged(&self, own_low: bool, fresh: bool, reply: &Reply) -> Lead
-        ensures { led result None ≡ merged own_low fresh self.now reply.now }
+    pub(crate) fn merged(&self, own_low: bool, fresh: bool, reply: &Reply, lead: &mut Lead)
+        ensures { led lead.new None ≡ merged own_low fresh self.now reply.now }
     {
         match *reply {
-            Reply::Joined(own) => self.look_on(own, own_low, fresh),
-            _ => Lead::Nowhere,
+            Reply::Joined(own) => *lead = self.look_on(own, own_low, fresh),
+            _ => *lead = Lead::Nowhere,
         }
     }
 
     /// After a lazy purge.
-    pub(crate) fn eased(&self, span: Span, reply: &Reply) -> Lead
-        ensures { led result None ≡ eased span self.now reply.now }
+    pub(crate) fn eased(&self, span: Span, reply: &Reply, lead: &mut Lead)
+        ensures { led lead.new None ≡ eased span self.now reply.now }
     {
         match *reply {
-            Reply::Lazy(true) => self.put_purged(span),
-            Reply::Lazy(false) => TurnPoint::Offering(span, *self).next(),
-            _ => Lead::Nowhere,
+            Reply::Lazy(true) => *lead = self.put_purged(span),
+            Reply::Lazy(false) => *lead = TurnPoint::Offering(span, *self).next(),
+            _ => *lead = Lead::Nowhere,
         }
     }
 
     /// After a dalloc.
-    pub(crate) fn returned(&self, span: Span, reply: &Reply) -> Lead
-        ensures { led result None ≡ returned span self.now reply.now }
+    pub(crate) fn returned(&self, span: Span, reply: &Reply, lead: &mut Lead)
+        ensures { led lead.new None ≡ returned span self.now reply.now }
     {
         match *reply {
-            Reply::Next(next) | Reply::Abandoned(next) => self.put_next(next),
-            Reply::Kept => AskPoint::Decommitting(span, *self).first(),
-            _ => Lead::Nowhere,
+            Reply::Next(next) | Reply::Abandoned(next) => self.put_next(next, lead),
+            Reply::Kept => *lead = AskPoint::Decommitting(span, *self).first(),
+            _ => *lead = Lead::Nowhere,
         }
     }
 
     /// After a decommit.
-    pub(crate) fn decommitted(&self, span: Span, reply: &Reply) -> Lead
-        ensures { led result None ≡ decommitted span self.now reply.now }
+    pub(crate) fn decommitted(&self, span: Span, reply: &Reply, lead: &mut Lead)
+        ensures { led lead.new None ≡ decommitted span self.now reply.now }
     {
         match *reply {
-            Reply::Decommitted(true) => self.put_purged(span),
-            Reply::Decommitted(false) => AskPoint::Forcing(span, *self).first(),
-            _ => Lead::Nowhere,
+            Reply::Decommitted(true) => *lead = self.put_purged(span),
+            Reply::Decommitted(false) => *lead = AskPoint::Forcing(span, *self).first(),
+            _ => *lead = Lead::Nowhere,
         }
     }
 
     /// After a forced purge.
-    pub(crate) fn forced(&self, span: Span, reply: &Reply) -> Lead
-        ensures { led result None ≡ forced span self.now reply.now }
+    pub(crate) fn forced(&self, span: Span, reply: &Reply, lead: &mut Lead)
+        ensures { led lead.new None ≡ forced span self.now reply.now }
     {
         match *reply {
-            Reply::Noted => self.put_purged(span),
-            _ => Lead::Nowhere,
+            Reply::Noted => *lead = self.put_purged(span),
+            _ => *lead = Lead::Nowhere,
         }
     }
 }

@@ -58,125 +58,126 @@ impl Resize {
     }
 
     /// The pages that it lacks are committed, or its extent is merged with them.
-    fn back(self, span: Span, committed: bool) -> Lead
-        ensures { led result None ≡ back self span committed }
+    fn back(self, span: Span, committed: bool, lead: &mut Lead)
+        ensures { led lead.new None ≡ back self span committed }
     {
         if committed {
-            AskPoint::Joining(self, span).first()
+            *lead = AskPoint::Joining(self, span).first();
         } else {
-            AskPoint::Backing(self, span).first()
+            *lead = AskPoint::Backing(self, span).first();
         }
     }
 
     /// What stands behind the pages that it lacks is cut off.
-    fn spare(self, span: Span, committed: bool) -> Lead
+    fn spare(self, span: Span, committed: bool, lead: &mut Lead)
         requires { IsFewPages self }
-        ensures { led result None ≡ spare self span committed }
+        ensures { led lead.new None ≡ spare self span committed }
     {
         if self.lacks() < span.pages {
-            AskPoint::Sparing {
-                resize: self,
+            let resize = self;
+            *lead = AskPoint::Sparing {
+                resize,
                 span,
                 committed,
             }
-            .first()
+            .first();
         } else {
-            self.back(span, committed)
+            self.back(span, committed, lead);
         }
     }
 
     /// A grant right behind it serves. Any other one is put down, and another region takes its place.
-    fn extend(self, span: Span, committed: bool) -> Lead
+    fn extend(self, span: Span, committed: bool, lead: &mut Lead)
         requires { IsFewPages self }
-        ensures { led result None ≡ extend self span committed }
+        ensures { led lead.new None ≡ extend self span committed }
     {
         if span.first == self.behind() {
-            self.spare(span, committed)
+            self.spare(span, committed, lead);
         } else {
-            Then::Moving(self.class).put_next(Some(span))
+            Then::Moving(self.class).put_next(Some(span), lead);
         }
     }
 
     /// After the look for the pages behind it.
-    pub(crate) fn looked(self, reply: &Reply) -> Lead
+    pub(crate) fn looked(self, reply: &Reply, lead: &mut Lead)
         requires { IsFewPages self }
-        ensures { led result None ≡ turn_replied (TurnPoint.Widening self) reply.now }
+        ensures { led lead.new None ≡ turn_replied (TurnPoint.Widening self) reply.now }
     {
         match *reply {
             Reply::Took {
                 span,
                 committed,
                 ..
-            } => self.spare(span, committed),
-            Reply::Noted => AskPoint::Extending(self).first(),
-            Reply::Nothing => self.move_off(),
-            _ => Lead::Nowhere,
+            } => self.spare(span, committed, lead),
+            Reply::Noted => *lead = AskPoint::Extending(self).first(),
+            Reply::Nothing => *lead = self.move_off(),
+            _ => *lead = Lead::Nowhere,
         }
     }
 
     /// After it was told to be cut.
-    pub(crate) fn begun(self, reply: &Reply) -> Lead
-        ensures { led result None ≡ turn_replied (TurnPoint.Narrowing self) reply.now }
+    pub(crate) fn begun(self, reply: &Reply, lead: &mut Lead)
+        ensures { led lead.new None ≡ turn_replied (TurnPoint.Narrowing self) reply.now }
     {
         match *reply {
-            Reply::Noted => AskPoint::Cutting(self).first(),
-            _ => Lead::Nowhere,
+            Reply::Noted => *lead = AskPoint::Cutting(self).first(),
+            _ => *lead = Lead::Nowhere,
         }
     }
 
     /// After the split of its extent.
-    pub(crate) fn narrowed(self, reply: &Reply) -> Lead
-        ensures { led result None ≡ narrowed self reply.now }
+    pub(crate) fn narrowed(self, reply: &Reply, lead: &mut Lead)
+        ensures { led lead.new None ≡ narrowed self reply.now }
     {
         match *reply {
-            Reply::Cut(high) => Then::Batches.put_next(Some(high)),
-            Reply::Whole => self.move_off(),
-            _ => Lead::Nowhere,
+            Reply::Cut(high) => Then::Batches.put_next(Some(high), lead),
+            Reply::Whole => *lead = self.move_off(),
+            _ => *lead = Lead::Nowhere,
         }
     }
 
     /// After the alloc of the chunks that it lacks.
-    pub(crate) fn extended(self, reply: &Reply) -> Lead
+    pub(crate) fn extended(self, reply: &Reply, lead: &mut Lead)
         requires { IsFewPages self }
-        ensures { led result None ≡ extended self reply.now }
+        ensures { led lead.new None ≡ extended self reply.now }
     {
         match *reply {
-            Reply::Refused | Reply::Bad(_) => self.move_off(),
-            Reply::Grown { span, committed } => self.extend(span, committed),
-            _ => Lead::Nowhere,
+            Reply::Refused | Reply::Bad(_) => *lead = self.move_off(),
+            Reply::Grown { span, committed } => self.extend(span, committed, lead),
+            _ => *lead = Lead::Nowhere,
         }
     }
 
     /// After the split of what stands behind the pages that it lacks.
-    pub(crate) fn spared(self, committed: bool, reply: &Reply) -> Lead
-        ensures { led result None ≡ spared self committed reply.now }
+    pub(crate) fn spared(self, committed: bool, reply: &Reply, lead: &mut Lead)
+        ensures { led lead.new None ≡ spared self committed reply.now }
     {
         match *reply {
-            Reply::Cut(low) => self.back(low, committed),
-            Reply::Whole => self.move_off(),
-            _ => Lead::Nowhere,
+            Reply::Cut(low) => self.back(low, committed, lead),
+            Reply::Whole => *lead = self.move_off(),
+            _ => *lead = Lead::Nowhere,
         }
     }
 
     /// After the commit of these pages.
-    pub(crate) fn backed(self, span: Span, reply: &Reply) -> Lead
-        ensures { led result None ≡ backed self span reply.now }
+    pub(crate) fn backed(self, span: Span, reply: &Reply, lead: &mut Lead)
+        ensures { led lead.new None ≡ backed self span reply.now }
     {
         match *reply {
-            Reply::Noted => AskPoint::Joining(self, span).first(),
-            Reply::Whole => self.move_off(),
-            _ => Lead::Nowhere,
+            Reply::Noted => *lead = AskPoint::Joining(self, span).first(),
+            Reply::Whole => *lead = self.move_off(),
+            _ => *lead = Lead::Nowhere,
         }
     }
 
     /// After the merge with them.
-    pub(crate) fn widened(self, reply: &Reply) -> Lead
-        ensures { led result None ≡ widened self reply.now }
+    pub(crate) fn widened(self, reply: &Reply, lead: &mut Lead)
+        ensures { led lead.new None ≡ widened self reply.now }
     {
         match *reply {
-            Reply::Landed { .. } => Lead::More,
-            Reply::Whole => self.move_off(),
-            _ => Lead::Nowhere,
+            Reply::Landed { .. } => *lead = Lead::More,
+            Reply::Whole => *lead = self.move_off(),
+            _ => *lead = Lead::Nowhere,
         }
     }
 }

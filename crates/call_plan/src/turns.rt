@@ -1,8 +1,10 @@
 //! Where the reply to a turn leads that takes in no answer of a hook.
 
 ghost use Rattle.std.specs.Prelude.{◌≡◌, ℕ, List, None};
-ghost use Rattle.call_plan.specs.Points.{IsSizedTurn};
-ghost use Rattle.call_plan.specs.Table.{is_marked, op_at, starved, turn_replied};
+ghost use Rattle.call_plan.specs.Items.{Replied, Starved};
+ghost use Rattle.call_plan.specs.Points.{IsSizedNext};
+ghost use Rattle.call_plan.specs.Runs.{step_next};
+ghost use Rattle.call_plan.specs.Table.{turn_replied};
 ghost use Rattle.call_plan.specs.Stages.{led};
 
 use crate::settings::{advanced, doomed, emptied, made, owned, published};
@@ -10,56 +12,62 @@ use crate::{Answered, Lead, Then, TurnPoint};
 use space_model::Reply;
 
 /// After regions went back.
-fn gave(reply: &Reply) -> Lead
-    ensures { (addrs : List ℕ) → led result None ≡ turn_replied (TurnPoint.Giving addrs) reply.now }
+fn gave(reply: &Reply, lead: &mut Lead)
+    ensures { (addrs : List ℕ) → led lead.new None ≡ turn_replied (TurnPoint.Giving addrs) reply.now }
 {
     match *reply {
-        Reply::Next(next) => Then::Batches.put_next(next),
-        _ => Lead::Nowhere,
+        Reply::Next(next) => Then::Batches.put_next(next, lead),
+        _ => *lead = Lead::Nowhere,
     }
 }
 
-impl TurnPoint {
-    /// Where the reply to the turn leads.
-    pub(crate) fn turned(&self, reply: &Reply) -> Lead
-        requires { IsSizedTurn self.now }
-        ensures { led result None ≡ turn_replied self.now reply.now }
+impl Lead {
+    /// Where it waits for the reply to a turn, it becomes where that leads.
+    pub(crate) fn turned(&mut self, reply: &Reply)
+        requires { IsSizedNext (led self.old None) }
+        ensures { led self.new None ≡ step_next (led self.old None) (Replied reply.now) }
     {
-        match self {
-            TurnPoint::Filling(wish, _) => wish.filled(reply),
-            TurnPoint::Looking(wish) => wish.looked(reply),
-            TurnPoint::Landing(wish, _) => wish.landed(reply),
-            TurnPoint::Giving(_) => gave(reply),
+        let Lead::Turns(point) = self else {
+            *self = Lead::Nowhere;
+            return;
+        };
+        match *point {
+            TurnPoint::Filling(wish, _) => wish.filled(reply, self),
+            TurnPoint::Looking(wish) => wish.looked(reply, self),
+            TurnPoint::Landing(wish, _) => wish.landed(reply, self),
+            TurnPoint::Giving(_) => gave(reply, self),
             TurnPoint::Finding {
                 own,
                 tries,
                 fresh,
                 then,
-            } => then.found(*own, *tries, *fresh, reply),
-            TurnPoint::Taking(visit, left) => visit.took(*left, reply),
-            TurnPoint::Offering(span, then) => then.offered(*span, reply),
-            TurnPoint::Advancing(_) => advanced(reply),
-            TurnPoint::Changing(_, change) => change.was_set(reply),
-            TurnPoint::Making(index, setting) => made(*index, *setting, reply),
-            TurnPoint::Resetting(_) => emptied(false, reply),
-            TurnPoint::Destroying(_) => emptied(true, reply),
-            TurnPoint::Dooming => doomed(reply),
-            TurnPoint::Publishing(_) => published(reply),
-            TurnPoint::Owning { addr, frees, .. } => owned(*addr, *frees, reply),
-            TurnPoint::Widening(resize) => resize.looked(reply),
-            TurnPoint::Narrowing(resize) => resize.begun(reply),
+            } => then.found(own, tries, fresh, reply, self),
+            TurnPoint::Taking(visit, left) => visit.took(left, reply, self),
+            TurnPoint::Offering(span, then) => then.offered(span, reply, self),
+            TurnPoint::Advancing(_) => advanced(reply, self),
+            TurnPoint::Changing(_, change) => change.was_set(reply, self),
+            TurnPoint::Making(index, setting) => made(index, setting, reply, self),
+            TurnPoint::Resetting(_) => emptied(false, reply, self),
+            TurnPoint::Destroying(_) => emptied(true, reply, self),
+            TurnPoint::Dooming => doomed(reply, self),
+            TurnPoint::Publishing(_) => published(reply, self),
+            TurnPoint::Owning { addr, frees, .. } => owned(addr, frees, reply, self),
+            TurnPoint::Widening(resize) => resize.looked(reply, self),
+            TurnPoint::Narrowing(resize) => resize.begun(reply, self),
         }
     }
 
-    /// Where the turn leads that found no memory: only the first one of what belongs together may find none.
-    pub(crate) fn starved(&self) -> Lead
-        ensures { led result None ≡ starved (is_marked (op_at self.now)) }
+    /// Where it waits for a turn that found no memory, it becomes where that leads: only the first one of what belongs together
+    /// may find none.
+    pub(crate) fn starved(&mut self)
+        ensures { led self.new None ≡ step_next (led self.old None) Starved }
     {
-        match self {
-            TurnPoint::Landing(..) | TurnPoint::Finding { .. } | TurnPoint::Offering(..) => {
-                Lead::Nowhere
-            }
-            _ => Lead::Ends(Answered::NoMemory),
-        }
+        *self = match self {
+            Lead::Turns(
+                TurnPoint::Landing(..) | TurnPoint::Finding { .. } | TurnPoint::Offering(..),
+            ) => Lead::Nowhere,
+            Lead::Turns(_) => Lead::Ends(Answered::NoMemory),
+            _ => Lead::Nowhere,
+        };
     }
 }

@@ -8,4 +8,3 @@ pub mod Changes
 pub mod Wanting
 pub mod Making
 pub mod Carrying
-pub mod LastAsk

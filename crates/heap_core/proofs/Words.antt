@@ -4,14 +4,12 @@ pub use Rattle.std.specs.Option.{option_map}
 pub use Rattle.std.proofs.Common.{All, Bool, Err, IfNone, IfSome, IsOk, IsSomeAnd, IsTrue, List, None, Ok, OnErr, OnOk, Option, Result, Some, [], ap, arith, cond, drop, false, find, get_or, inl, inr, is_some, length, length-append, lt-ltb, map, max, nat_lt, not, refl, replicate, rules, slice_set, subst, suc, sym, take, true, vec_capacity, zero, zero-add, ℕ, ◌%◌, ◌&&◌, ◌*◌, ◌++◌, ◌+◌, ◌-◌, ◌/◌, ◌<◌, ◌==◌, ◌^◌, ◌||◌, ◌∙◌, ◌∷◌, ◌≡◌, ◌≢◌, ◌≤◌, ◌⊎◌}
 pub use Rattle.std.proofs.Math.Bool.{or-false, or_assoc}
 pub use Rattle.std.proofs.Math.ListN.{get_or-map}
-pub use Rattle.std.proofs.Math.Seq.{get_or-append_seam}
 pub use Rattle.std.proofs.lemmas.Grind.{same_number_lists}
 pub use Rattle.std.proofs.lemmas.List.{get_or-replicate, get_or-set_other, get_or-set_same, get_or_default, length-drop, length-map, length-replicate, length-set, map-set, set-get_or, take_all}
 pub use Rattle.std.proofs.lemmas.List.Elements.{All-cons, All-head, All-nil, All-tail}
 pub use Rattle.std.proofs.lemmas.List.FromFn.{get_or-map-range_with_len, get_or-range_with_len, map-range_with_len_more}
 pub use Rattle.std.proofs.lemmas.List.Quantifiers.{position-Some}
 pub use Rattle.std.proofs.lemmas.List.Sums.{sum_by-cons, sum_by-set}
-pub use Rattle.std.proofs.lemmas.Option.{slice_get-get_or}
 pub use Rattle.arena_core.proofs.Emptying.{any_counts}
 pub use Rattle.arena_core.proofs.Words.{Publish, emptied_by_op, holders, is_in, keep_offer, room_after}
 pub use Rattle.call_plan.proofs.Beginning.{batches-know}

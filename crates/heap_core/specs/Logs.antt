@@ -24,9 +24,8 @@ all_owed owed = sum_by (λ n. n) owed
 abbrev pub shown : Inside → LogFacts
 shown log = record { asks = log.asks.items; owed = log.owed }
 
--- the last ask stands there, the total is that of all promises, there is a place for each, and the asks can be counted
+-- the total is that of all promises, there is a place for each, and the asks can be counted
 pub record IsLog (log : Inside) : Type 0 where
-  pub last : log.last ≡ last_asked log.asks.items
   pub adds_up : log.total ≡ all_owed log.owed
   pub places : log.total ≤ log.asks.spare
   pub few : length log.asks.items < 2 ^ 64

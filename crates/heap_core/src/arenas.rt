@@ -146,6 +146,7 @@ impl Arenas {
     /// place for that. The chunk that speaks against that ask's answer is looked for among all arenas in this very turn. The
     /// reply is written into the place for it.
     /// Where memory is wanting, nothing changes in the arenas; that comes at the first turn of a unit alone.
+    #[inline(always)]
     pub fn turn(
         &mut self,
         arena: u32,

@@ -1,11 +1,11 @@
 //! Calls that are carried out where they begin, without a place in which they stand, as far as that goes by turns alone.
 
-ghost use Rattle.std.specs.Prelude.{◌≡◌, ◌<◌, ◌≤◌, [], ◌∷◌, None, false, true, OnErr, OnOk};
+ghost use Rattle.std.specs.Prelude.{◌≡◌, ◌<◌, ◌≤◌, [], ◌∷◌, None, false, true, IfSome, IsOk, IsSomeAnd, OnErr, OnOk};
 ghost use Rattle.call_plan.specs.Soon.{Gets, Gives, replied_first, took_whole};
 ghost use Rattle.size_classes.specs.Classes.{pages_at};
-ghost use Rattle.heap_core.specs.Words.{Goes, HasRoomToHold, IsInRange, Replied, Shelf, after, begin, held_at, moment_at};
+ghost use Rattle.heap_core.specs.Words.{Goes, HasRoomToHold, IsInRange, Replied, Shelf, after, begin, held_at, moment_at, takes_memory};
 ghost use Rattle.heap_core.specs.Carrying.{CameOf, CarriedOut, LeadsTo, Shows, look_of};
-ghost use Rattle.heap_core.specs.Seats.{seat_at};
+ghost use Rattle.heap_core.specs.Seats.{asked_for, seat_at};
 ghost use Rattle.heap_core.specs.Sitting.{Comes};
 
 use crate::Arenas;
@@ -49,22 +49,21 @@ fn look(arena: u32, client: u32, class: u8) -> Turn
     Turn { arena, client, op }
 }
 
-/// A call takes in the reply to its turn, and stands in a place while it is open. Its answer is told, once it has ended.
+/// The call in a place takes in the reply to its turn, and stands there while it is open. Its answer is told, once it has ended.
 #[inline(never)]
 fn go_on(
     alloc: Global,
     desk: &mut Desk,
     place: &mut Option<Call>,
-    mut call: Call,
     reply: &Reply,
     ended: &mut Option<Answered>,
 )
-    requires goes { Goes (after (moment_at call desk.old.facts) (Replied reply.now)).stage.next }
-    requires room { HasRoomToHold desk.old.facts desk.old.room call.stage.next }
-    ensures { Shows call.client (after (moment_at call desk.old.facts) (Replied reply.now)) desk.new place.new ended.new }
+    requires goes { IsSomeAnd place.old (λ call. Goes (after (moment_at call desk.old.facts) (Replied reply.now)).stage.next) }
+    requires room { IfSome place.old (λ call. HasRoomToHold desk.old.facts desk.old.room call.stage.next) }
+    ensures { IfSome place.old (λ call. Shows call.client (after (moment_at call desk.old.facts) (Replied reply.now)) desk.new place.new ended.new) }
 {
+    let Some(call) = place else { unreachable!() };
     call.next(alloc, desk, Item::Replied(reply));
-    *place = Some(call);
     settle(place, ended);
 }
 
@@ -90,8 +89,8 @@ fn end_fill(
     match desk.filled(size, class, reply) {
         Some(addr) => *ended = Some(Answered::Ok(Given::Region { addr, class })),
         None => {
-            let call = Call::of_malloc(client, size, class, desk);
-            go_on(alloc, desk, place, call, reply, ended);
+            *place = Some(Call::of_malloc(client, size, class, desk));
+            go_on(alloc, desk, place, reply, ended);
         }
     }
 }
@@ -120,8 +119,8 @@ fn end_landing(
     match desk.landed(size, class, span, reply) {
         Some(addr) => *ended = Some(Answered::Ok(Given::Region { addr, class })),
         None => {
-            let call = Call::of_landing(client, size, class, span, desk);
-            go_on(alloc, desk, place, call, reply, ended);
+            *place = Some(Call::of_landing(client, size, class, span, desk));
+            go_on(alloc, desk, place, reply, ended);
         }
     }
 }
@@ -197,8 +196,8 @@ fn end_malloc(
             alloc, client, size, class, span, arenas, log, desk, place, ended,
         ),
         None => {
-            let call = Call::of_malloc(client, size, class, desk);
-            go_on(alloc, desk, place, call, reply, ended);
+            *place = Some(Call::of_malloc(client, size, class, desk));
+            go_on(alloc, desk, place, reply, ended);
         }
     }
 }
@@ -224,8 +223,8 @@ fn end_back(
     if desk.given(addr, region, reply) {
         *ended = Some(Answered::Ok(Given::Done));
     } else {
-        let call = Call::of_free(alloc, client, addr, region, desk);
-        go_on(alloc, desk, place, call, reply, ended);
+        *place = Some(Call::of_free(alloc, client, addr, region, desk));
+        go_on(alloc, desk, place, reply, ended);
     }
 }
 
@@ -368,6 +367,7 @@ impl Heap {
         requires rests { (seat_at self.old.seats client).call ≡ None }
         requires range { IsInRange request }
         ensures carried { OnOk result ((shelf : Shelf) → CarriedOut self.old shelf client request self.new shelf ended.new) }
+        ensures spare { takes_memory (asked_for self.old.seats client request) (seat_at self.old.seats client).desk ≡ false → IsOk result }
         ensures err { OnErr result (self.new ≡ self.old) }
     {
         if !self.carry_own(alloc, client, &request, ended) {

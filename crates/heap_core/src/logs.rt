@@ -15,7 +15,6 @@ const CLIENTS: usize = space_model::CLIENTS as usize;
 #[derive(Drop)]
 pub struct AskLog {
     asks: AskList,
-    last: Option<Asked>,
     owed: [u64; CLIENTS],
     total: u64,
 }
@@ -37,7 +36,6 @@ impl AskLog {
     {
         AskLog {
             asks: AskList::new(alloc),
-            last: None,
             owed: [0; CLIENTS],
             total: 0,
         }
@@ -61,15 +59,14 @@ impl AskLog {
     }
 
     /// An ask of a client, which takes one of the places that it was promised.
-    pub fn push(&mut self, client: u32, asked: Asked)
+    pub fn push(&mut self, client: u32, asked: &Asked)
         requires client { client < 32 }
         requires place { 0 < owed_to self.old.owed client }
-        ensures asks { self.new.asks ≡ self.old.asks ++ asked ∷ [] }
+        ensures asks { self.new.asks ≡ self.old.asks ++ asked.now ∷ [] }
         ensures others { (other : ℕ) → other ≢ client → owed_to self.new.owed other ≡ owed_to self.old.owed other }
         ensures one { owed_to self.old.owed client ≤ owed_to self.new.owed client + 1 }
     {
-        self.asks.push(&asked);
-        self.last = Some(asked);
+        self.asks.push(asked);
         self.owed[client as usize] -= 1;
         self.total -= 1;
     }
@@ -78,7 +75,7 @@ impl AskLog {
     pub fn last(&self) -> Option<Asked>
         ensures { result ≡ last_asked self.now.asks }
     {
-        self.last
+        self.asks.last()
     }
 
     /// What is always so: there are fewer than 2^64 asks.

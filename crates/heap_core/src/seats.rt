@@ -152,6 +152,7 @@ impl Client {
     }
 
     /// Feeds an item to its open call. The answer is told, where the call has ended by it. Takes no memory.
+    #[inline(always)]
     pub fn feed(&mut self, alloc: Global, item: Item<'_>, ended: &mut Option<Answered>)
         requires { IsSomeAnd self.old.call (λ call. Goes (after (moment_of call self.old.desk) (lent item)).stage.next) }
         ensures { IfSome self.old.call (λ call. FedTo call self.old.desk (lent item.entry) ended.new self.new) }

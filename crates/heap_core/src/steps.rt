@@ -214,7 +214,7 @@ impl Heap {
     {
         self.arenas.are_apart();
         let asked = shelf.ask(self.arenas.at(arena).box_no(), ask);
-        self.log.push(client, asked);
+        self.log.push(client, &asked);
         told.did = Did::Ask;
         self.clients[client as usize].feed(alloc, Item::Told(&asked), &mut told.ended);
     }
@@ -238,6 +238,7 @@ impl Heap {
     }
 
     /// The same, for a caller that has a place for what is told.
+    #[inline(always)]
     pub fn step_into<H: ExtentHooks>(
         &mut self,
         alloc: Global,

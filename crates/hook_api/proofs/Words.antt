@@ -1,5 +1,5 @@
 -- The words of the proofs: definitions and lemmas of std, of the crates below and of this one, each under one name.
-pub use Rattle.std.specs.List.{All, sum_by}
+pub use Rattle.std.specs.List.{All, slice_get, sum_by}
 pub use Rattle.std.specs.Mem.Slots.{slots_items, slots_len, slots_filled}
 pub use Rattle.std.specs.Vec.Iter.{into_iter_items, into_iter_len}
 pub use Rattle.std.proofs.Common.{◌≡◌, ℕ, ◌-◌, ◌<◌, zero, suc, inl, inr, Bool, false, set, List, [], ◌∷◌, ◌++◌, map, length, get_or, take, replicate, sym, refl, ap, ◌∙◌, subst, arith, append_assoc, Some, ◌+◌, ◌≤◌, ◌≢◌, true, cond, eqb, drop, min, ⊎_elim, length-set, Option, None, ◌==◌, count_by, append-nil, not, filter, ◌↔◌, IsTrue, IfSome, IsSomeAnd, is_none, is_some, ◌&&◌, slice_index_or, vec_capacity, vec_len, rules, slice_index}
@@ -8,6 +8,7 @@ pub use Rattle.std.proofs.lemmas.Bool.{eqb-false, eqb-true, eq-eqb}
 pub use Rattle.std.proofs.lemmas.Bool.Decides.{nat_tests}
 pub use Rattle.std.proofs.lemmas.Grind.{common_steps}
 pub use Rattle.std.proofs.lemmas.List.{map-append, get_or-set_other, get_or-set_same, get_or_default, length-append, length-replicate, get_or-map, get_or_read_under, map-set, length-map}
+pub use Rattle.std.proofs.lemmas.Option.{slice_get-get_or}
 pub use Rattle.std.proofs.lemmas.List.Elements.{All-pop, All-push, All-same}
 pub use Rattle.std.proofs.lemmas.List.Sums.{sum_by-cons, sum_by-append, sum_by_push, sum_by-take-drop, sum_by-set}
 pub use Rattle.atomic_table.proofs.Lists.{set_else, set_here, set_again, at_snoc, some_there, exchanged, at_set}

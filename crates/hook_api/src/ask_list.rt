@@ -1,6 +1,6 @@
 //! Asks that were made, in order and in few bytes.
 
-ghost use Rattle.std.specs.Prelude.{◌≡◌, ◌+◌, ◌<◌, ◌≤◌, ◌^◌, None, [], ◌∷◌, ◌++◌, length, IfOk, IfSome, OnOk};
+ghost use Rattle.std.specs.Prelude.{◌≡◌, ◌+◌, ◌-◌, ◌<◌, ◌≤◌, ◌^◌, None, [], ◌∷◌, ◌++◌, length, slice_get, IfOk, IfSome, OnOk};
 
 use crate::Asked;
 use crate::narrow_asks::NarrowAsk;
@@ -106,6 +106,17 @@ impl AskList {
         ensures { result ≡ length self.now.items }
     {
         self.narrow.len()
+    }
+
+    /// The last ask.
+    #[tactic(auto, using(crate::proofs::Filling::last_filled))]
+    pub fn last(&self) -> Option<Asked>
+        ensures { result ≡ slice_get self.now.items (length self.now.items - 1) }
+    {
+        match self.narrow.last()?.asked() {
+            Some(asked) => Some(asked),
+            None => self.whole.last().copied(),
+        }
     }
 
     /// The asks in order, to be read one behind the other.

@@ -37,6 +37,8 @@ use Rattle.phase_run.specs.Stands.{Stand, desk_in}
 use Rattle.phase_run.specs.Threads.{AreCarried}
 use Rattle.recorded_arena.specs.Records.{entries_of, opening_space}
 use Rattle.replay_run.proofs.Getting.{PointGets}
+use Rattle.replay_run.proofs.Served.{none_yet, region_live, untaken}
+use Rattle.replay_run.proofs.Truths.{not_live}
 use Rattle.replay_run.proofs.Ways.{CanGo, Leads, OwnsAt, begin_leads, no_arena_at, no_arena_reply, not_held_at}
 use Rattle.replay_run.specs.Served.{IsHelped, IsMetBy, MayCome, Serves}
 use Rattle.space_model.proofs.Pieces.{both_true}
@@ -107,44 +109,10 @@ served_live s c sound served = by s.life refl
     by (Dying d) is = let quiet : IsQuiet (Dying d) s = subst (λ l. IsQuiet l s) is sound.quiet in absurd (none quiet.0 quiet.2)
     by Absent is = let quiet : IsQuiet Absent s = subst (λ l. IsQuiet l s) is sound.quiet in absurd (none quiet.0 quiet.2)
 
-region_live : (s : Space) (test : SpaceRegion → Bool) → Sound s → list_any test s.regions ≡ true → is_live s.life ≡ true
-region_live s test sound some = by s.life refl
-  where
-    by : (now : Life) → s.life ≡ now → is_live now ≡ true
-    by now is = grind (arith, sound.quiet)
-
 -- ---- what a reply tells of its turn
-
--- an arena that replies so isn't live
-not_live : (c : ℕ) (s t : Space) (op : Op) (reply : Reply) → Outcome c s t op reply → reply ≡ NoArena → is_live s.life ≡ false
-not_live c s t op reply (LookNoArena dead same) e = dead
-not_live c s t op reply (FillNoArena dead same) e = dead
-not_live c s t op reply (AdvanceNoArena dead same) e = dead
-not_live c s t op reply (PurgeNoArena dead same) e = dead
-not_live c s t op reply (TakeNoArena dead same) e = dead
-not_live c s t op reply (ResetNoArena dead same) e = dead
-not_live c s t op reply (DestroyNoArena dead same) e = dead
-not_live c s t op reply (CountsNoArena dead same) e = dead
-not_live c s t op reply (SetNoArena dead same) e = dead
-not_live c s t op reply other e = absurd (cc)
 
 dead_there : (c : ℕ) (s : Space) (op : Op) (reply : Reply) → Sound s → stands s (entry_of c op) ≡ true → reply ≡ reply_to s (entry_of c op) → reply ≡ NoArena → is_live s.life ≡ false
 dead_there c s op reply sound may told none = not_live c s _ op _ (op_goes c s op sound (both_true (nat_lt c 32) _ may).1).outcome (sym told ∙ none)
-
-none_found : (test : SpaceRegion → Bool) (rs : List SpaceRegion) → find test rs ≡ None → list_any test rs ≡ false
-none_found test [] e = refl
-none_found test (r ∷ rs) e = by (test r) refl (none_found test rs)
-  where
-    by : (v : Bool) → test r ≡ v → (find test rs ≡ None → list_any test rs ≡ false) → list_any test (r ∷ rs) ≡ false
-    by v is more = grind (arith, more)
-
--- a region that is published is taken over
-untaken : (s : Space) (c addr : ℕ) → (step_of s c (TakeOver addr)).reply ≡ Nothing → IsMetBy s c (TakeOver addr) → ⊥
-untaken s c addr told some = by (find (is_published_at addr) s.regions) refl
-  where
-    by : (found : Option SpaceRegion) → find (is_published_at addr) s.regions ≡ found → ⊥
-    by None is = let none = none_found (is_published_at addr) s.regions is in cc
-    by (Some r) is = grind (arith, told)
 
 -- ---- what is so of the turn that answers a call
 
@@ -227,10 +195,6 @@ serves had request items (BadAnswer span why) cause same comes helped =
     let bad : BadCause request items span why = subst (λ r. BadCause r items span why) same cause in
     absurd (helped.fitting why (subst (λ xs. Contains xs (Replied (Bad why))) (sym bad.told) (Contains-append_right bad.earlier (Heard bad.asked ∷ Replied (Bad why) ∷ []) (Replied (Bad why)) (1, omega arith, refl))))
 serves had request items answer cause same comes helped = absurd comes
-
--- nothing was replied where nothing was done
-none_yet : (x : Item) → Contains [] x → ⊥
-none_yet x has = absurd (omega (arith, has.1))
 
 seen_none : (c : ℕ) (met : Option (Space × Op)) (had : DeskFacts) (dids : List Did) (request : Request) (answer : Answered) → dids ≡ [] → Seen c met had (map item_of dids) request answer
 seen_none c met had dids request (NotHeld addr) none = λ has needed. none_yet (Replied Nothing) (subst (λ (ds : List Did). Contains (map item_of ds) (Replied Nothing)) none has)

@@ -121,9 +121,8 @@ impl Recorded {
         ensures others { (other : ℕ) → other ≢ client → mine other self.new.space ≡ mine other self.old.space }
     {
         make_places(&mut self.journal, &self.arena, op)?;
-        let told = self.arena.step(client, op)?;
+        *reply = self.arena.step(client, op)?;
         self.journal.push(client, op, asked);
-        *reply = told;
         Ok(())
     }
 

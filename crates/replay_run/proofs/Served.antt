@@ -33,7 +33,7 @@ bound_live s c sound bound = by s.life refl
     by : (now : _) → s.life ≡ now → is_live now ≡ true
     by now is = grind (arith, sound.quiet)
 
-region_live : (s : Space) (test : SpaceRegion → Bool) → Sound s → list_any test s.regions ≡ true → is_live s.life ≡ true
+pub region_live : (s : Space) (test : SpaceRegion → Bool) → Sound s → list_any test s.regions ≡ true → is_live s.life ≡ true
 region_live s test sound some = by s.life refl
   where
     by : (now : _) → s.life ≡ now → is_live now ≡ true
@@ -49,7 +49,7 @@ none_found test (r ∷ rs) e = by (test r) refl (none_found test rs)
     by v is more = grind (arith, more)
 
 -- a region that is published is taken over
-untaken : (s : Space) (c addr : ℕ) → (step_of s c (TakeOver addr)).reply ≡ Nothing → IsMetBy s c (TakeOver addr) → ⊥
+pub untaken : (s : Space) (c addr : ℕ) → (step_of s c (TakeOver addr)).reply ≡ Nothing → IsMetBy s c (TakeOver addr) → ⊥
 untaken s c addr told some = by (find (is_published_at addr) s.regions) refl
   where
     by : (found : Option SpaceRegion) → find (is_published_at addr) s.regions ≡ found → ⊥
@@ -236,7 +236,7 @@ answer_served w event tale answer cause seen = record {
 }
 
 -- nothing was replied where a request began
-none_yet : (x : Item) → Contains [] x → ⊥
+pub none_yet : (x : Item) → Contains [] x → ⊥
 none_yet x has = absurd (omega (arith, has.1))
 
 begun_seen : (w : World) (event : WorldEvent) (tale : Tale) (request : Request) (answer : Answered) → tale.items ≡ [] → Seen w event tale request answer

@@ -73,7 +73,7 @@ told_true w c call (Needing wish) asked (BadReply why) is e =
 told_true w c call point asked reply is e = first_of (search (rules), grind (arith, nat_tests))
 
 -- an arena that replies so isn't live
-not_live : (c : ℕ) (s t : Space) (op : Op) (reply : Reply) → Outcome c s t op reply → reply ≡ NoArena → is_live s.life ≡ false
+pub not_live : (c : ℕ) (s t : Space) (op : Op) (reply : Reply) → Outcome c s t op reply → reply ≡ NoArena → is_live s.life ≡ false
 not_live c s t op reply (LookNoArena dead same) e = dead
 not_live c s t op reply (FillNoArena dead same) e = dead
 not_live c s t op reply (AdvanceNoArena dead same) e = dead

@@ -342,17 +342,17 @@ pub fn answer_call<K: Sink>(
     names: &mut Names,
     client: u32,
     verb: Verb,
-    answer: Answered,
+    answer: &Answered,
 ) -> Result<(), Stop>
-    ensures names { OnOk result (names.new ≡ names_ended names.old verb answer) }
-    ensures text { OnOk result (Appends (K.held sink.old) (K.held sink.new) (answer_line client verb answer)) }
-    ensures beginning { OnErr result (AppendsPrefix (K.held sink.old) (K.held sink.new) (answer_line client verb answer)) }
+    ensures names { OnOk result (names.new ≡ names_ended names.old verb answer.now) }
+    ensures text { OnOk result (Appends (K.held sink.old) (K.held sink.new) (answer_line client verb answer.now)) }
+    ensures beginning { OnErr result (AppendsPrefix (K.held sink.old) (K.held sink.new) (answer_line client verb answer.now)) }
     ensures cause { IfErr result (λ stop. HasStopCause stop 0 0 (K.faults sink.old) (K.faults sink.new)) }
     ensures unfailed { OnOk result (K.faults sink.new ≡ K.faults sink.old) }
     ensures counts { K.faults sink.old ≤ K.faults sink.new }
 {
     text.clear();
-    call_line(text, client, head(&verb), &answer)?;
+    call_line(text, client, head(&verb), answer)?;
     print(sink, text)?;
     names.bind_answer(verb, answer)?;
     Ok(())
@@ -404,7 +404,7 @@ fn begin_request<K: Sink>(
         Some(answer) => {
             state.tally.count(&answer);
             let (text, names) = (&mut state.text, &mut state.names);
-            answer_call(text, sink, names, client, verb, answer)
+            answer_call(text, sink, names, client, verb, &answer)
         }
         None => {
             state.open(client, verb, sweep);
@@ -441,7 +441,7 @@ fn begin_call<K: Sink>(
             let answer = Answered::NotHeld(target_of(&state.names, &verb));
             state.tally.count(&answer);
             let (text, names) = (&mut state.text, &mut state.names);
-            answer_call(text, sink, names, client, verb, answer)
+            answer_call(text, sink, names, client, verb, &answer)
         }
     }
 }

@@ -51,11 +51,11 @@ impl Names {
     ///
     /// An `Err` says that a new name found no memory, and leaves the names as they were.
     #[inline(always)]
-    pub fn bind_answer(&mut self, verb: Verb, answer: Answered) -> Result<(), NoMemory>
-        ensures bound { OnOk result (self.new ≡ names_ended self.old verb answer) }
+    pub fn bind_answer(&mut self, verb: Verb, answer: &Answered) -> Result<(), NoMemory>
+        ensures bound { OnOk result (self.new ≡ names_ended self.old verb answer.now) }
         ensures err { OnErr result (self.new ≡ self.old) }
     {
-        match (verb, answer) {
+        match (verb, *answer) {
             (
                 Verb::Malloc { name, .. }
                 | Verb::Memalign { name, .. }

@@ -140,7 +140,7 @@ impl State {
         };
         self.tally.count(answer);
         match self.calls[client as usize].take() {
-            Some(call) => self.names.bind_answer(call.verb, *answer),
+            Some(call) => self.names.bind_answer(call.verb, answer),
             None => Ok(()),
         }
     }

@@ -94,10 +94,10 @@ pub fn carry_whole<K: Sink, H: ExtentHooks>(
     if is_starved(&told) {
         return Err(Stop::NoMemory);
     }
-    let Stepped { ended, .. } = told;
+    let Stepped { ended, .. } = &told;
     match ended {
         Some(answer) => {
-            state.tally.count(&answer);
+            state.tally.count(answer);
             let (text, names) = (&mut state.text, &mut state.names);
             answer_call(text, sink, names, client, verb, answer)
         }

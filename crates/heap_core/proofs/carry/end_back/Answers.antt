@@ -9,4 +9,4 @@ use Rattle.heap_core.proofs.carry.end_back.Goals as goal
 pub returns-else-given : goal.returns-else-given
 returns-else-given c =
     subst (λ (d : DeskSeen). Shows c.args.client (replied_first (Free c.args.addr) d.facts c.args.reply.now) c.go_on.new.desk c.go_on.new.place c.go_on.new.ended) (c.given.ensures.same c.if-given.false)
-    (shows_so c.args.reply.now c.go_on.new.desk c.go_on.new.place c.go_on.new.ended c.of_free-call.ensures.client c.of_free-call.ensures.moment c.go_on.ensures)
+    (shows_so c.args.reply.now c.go_on.new.desk c.go_on.new.place c.go_on.new.ended c.of_free.ensures.client c.of_free.ensures.moment c.go_on.ensures)

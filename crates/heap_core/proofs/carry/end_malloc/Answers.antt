@@ -7,5 +7,5 @@ returns-in-None-clause-led c = record {
   turns = [];
   last = _;
   led = (refl, refl, refl);
-  shows = shows_so c.args.reply.now c.go_on.new.desk c.go_on.new.place c.go_on.new.ended c.of_malloc-call.ensures.client c.of_malloc-call.ensures.moment c.go_on.ensures;
+  shows = shows_so c.args.reply.now c.go_on.new.desk c.go_on.new.place c.go_on.new.ended c.of_malloc.ensures.client c.of_malloc.ensures.moment c.go_on.ensures;
 }

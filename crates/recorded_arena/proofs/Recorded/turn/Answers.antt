@@ -12,14 +12,14 @@ pub invariant_of-self-2 : goal.invariant_of-self-2
 invariant_of-self-2 c =
     turn_recorded c.self.inside (record { index = c.self.inside.index; arena = c.step.new.self; journal = c.push.new.self }) c.args.self.now c.args.client c.args.op.now c.args.asked.now
     c.make_places.new.journal.spare c.self.view_is c.self.invariant c.requires.stands c.requires.room c.make_places.ensures.kept c.in_ok-make_places.ensures.ok
-    refl c.in_ok-told.ensures.after c.in_ok-told.ensures.rooms c.in_ok-told.ensures.few (c.push.ensures.kept ∙ ap (λ kept. kept ++ record { entry = entry_of c.args.client c.args.op.now; asked = c.args.asked.now } ∷ []) c.make_places.ensures.entries) c.push.ensures.spare
+    refl c.in_ok-reply.ensures.after c.in_ok-reply.ensures.rooms c.in_ok-reply.ensures.few (c.push.ensures.kept ∙ ap (λ kept. kept ++ record { entry = entry_of c.args.client c.args.op.now; asked = c.args.asked.now } ∷ []) c.make_places.ensures.entries) c.push.ensures.spare
 
 pub returns-clause-replayed : goal.returns-clause-replayed
 returns-clause-replayed c =
     (turn_recorded c.self.inside (record { index = c.self.inside.index; arena = c.step.new.self; journal = c.push.new.self }) c.args.self.now c.args.client c.args.op.now c.args.asked.now
     c.make_places.new.journal.spare c.self.view_is c.self.invariant c.requires.stands c.requires.room c.make_places.ensures.kept c.in_ok-make_places.ensures.ok
-    refl c.in_ok-told.ensures.after c.in_ok-told.ensures.rooms c.in_ok-told.ensures.few (c.push.ensures.kept ∙ ap (λ kept. kept ++ record { entry = entry_of c.args.client c.args.op.now; asked = c.args.asked.now } ∷ []) c.make_places.ensures.entries) c.push.ensures.spare).replayed
+    refl c.in_ok-reply.ensures.after c.in_ok-reply.ensures.rooms c.in_ok-reply.ensures.few (c.push.ensures.kept ∙ ap (λ kept. kept ++ record { entry = entry_of c.args.client c.args.op.now; asked = c.args.asked.now } ∷ []) c.make_places.ensures.entries) c.push.ensures.spare).replayed
 
 pub returns-clause-room : goal.returns-clause-room
 returns-clause-room c =
-    room_bound c.self.inside c.args.self.now c.args.client c.args.op.now c.step.new.self.rooms c.self.view_is c.self.invariant c.requires.stands c.requires.room c.in_ok-told.ensures.rooms c.in_ok-told.ensures.few
+    room_bound c.self.inside c.args.self.now c.args.client c.args.op.now c.step.new.self.rooms c.self.view_is c.self.invariant c.requires.stands c.requires.room c.in_ok-reply.ensures.rooms c.in_ok-reply.ensures.few

@@ -8,4 +8,4 @@ returns-in_err-call_line-clause-beginning g c = err_holds c.from_residual.result
 pub returns-in_err-print-clause-beginning : goal.returns-in_err-print-clause-beginning
 returns-in_err-print-clause-beginning g c =
     err_holds c.from_residual-in_err-print.result _
-    (rw (c.deref.ensures.value, c.in_ok-call_line.ensures, c.clear.ensures.items, c.head.ensures c.args.client c.args.answer) at c.in_err-print.ensures.beginning)
+    (rw (c.deref.ensures.value, c.in_ok-call_line.ensures, c.clear.ensures.items, c.head.ensures c.args.client c.args.answer.now) at c.in_err-print.ensures.beginning)

@@ -1,5 +1,4 @@
-use Rattle.heap_core.proofs.Words.{◌∙◌, ◌-◌, ◌<◌, sym, subst, ap, arith, sum_by-set, LogFacts, last_asked, owed_to}
-use Rattle.heap_core.proofs.LastAsk.{last_pushed}
+use Rattle.heap_core.proofs.Words.{◌-◌, ◌<◌, sym, subst, arith, sum_by-set, LogFacts, owed_to}
 use Rattle.heap_core.proofs.logs.AskLog.push.Goals as goal
 
 pub invariant_of-self : goal.invariant_of-self
@@ -8,7 +7,6 @@ invariant_of-self c =
     let place : 0 < owed_to owed c.args.client = subst (λ (log : LogFacts). 0 < owed_to log.owed c.args.client) (sym c.self.view_is) c.requires.place in
     let sum = sum_by-set (λ n. n) owed c.args.client (owed_to owed c.args.client - 1) 0 (omega (arith, c.self.told, c.requires.client)) in
     record {
-      last = sym (ap last_asked c.push.ensures.items ∙ last_pushed c.self.inside.asks.items c.args.asked);
       adds_up = omega (arith, sum, c.self.invariant.adds_up, place);
       places = omega (arith, c.self.invariant.places, c.push.ensures.spare);
       few = c.push.ensures.few;
