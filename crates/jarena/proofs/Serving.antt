@@ -2,7 +2,7 @@
 use Rattle.std.proofs.Common.{◌≡◌, ◌∙◌, inl, inr, ℕ, ◌-◌, ◌<◌, ◌++◌, ◌∷◌, [], ◌||◌, Bool, true, false, List, Option, None, Some, refl, sym, ap, subst, arith, filter, map, nat_lt, length}
 use Rattle.std.specs.List.{Contains, list_any}
 use Rattle.std.specs.Option.{option_map, option_map_or}
-use Rattle.std.specs.Prelude.{find, slice_index_or}
+use Rattle.std.specs.Prelude.{slice_index_or}
 use Rattle.std.proofs.lemmas.List.Elements.{Contains-append_right}
 use Rattle.arena_core.specs.Arenas.{entry_of}
 use Rattle.call_plan.proofs.Reasons.{answers-have_causes}
@@ -45,7 +45,6 @@ use Rattle.space_model.proofs.Pieces.{both_true}
 use Rattle.space_model.proofs.Steps.{op_goes}
 use Rattle.space_model.specs.Clients.{is_in}
 use Rattle.space_model.specs.Holding.{is_published_at}
-use Rattle.space_model.specs.Outcome.{Outcome, LookNoArena, FillNoArena, AdvanceNoArena, PurgeNoArena, TakeNoArena, ResetNoArena, DestroyNoArena, CountsNoArena, SetNoArena}
 use Rattle.space_model.specs.Own.{mine}
 use Rattle.space_model.specs.Region.{is_held_by}
 use Rattle.space_model.specs.Sound.{IsQuiet, Sound}
@@ -54,7 +53,6 @@ use Rattle.space_model.specs.declared.Life.{Life}
 use Rattle.space_model.specs.declared.Life.TheVariants.{Absent, Dying, Live}
 use Rattle.space_model.specs.declared.Op.{Op}
 use Rattle.space_model.specs.declared.Op.TheVariants.{TakeOver}
-use Rattle.space_model.specs.declared.Region.{Region as SpaceRegion}
 use Rattle.space_model.specs.declared.Reply.{Reply}
 use Rattle.space_model.specs.declared.Reply.TheVariants.{Bad, NoArena, Nothing}
 use Rattle.space_model.specs.declared.Space.{Space}

@@ -1,5 +1,12 @@
 -- A step of a client's open call is an event.
-use Rattle.replay_run.proofs.Words.{◌≡◌, ◌≢◌, inl, inr, ℕ, Bool, true, List, [], ◌++◌, Option, Some, is_none, refl, sym, ◌∙◌, ap, append-nil, Appends, AppendsPrefix, Chain, Shelf, CallFacts, Want, WantAsk, WantTurn, want, Did, Stepped, ToldItem, HeapFacts, IsStepFor, IsStep, answered_by, holder_for, moment_after, answer_of, seat_at, ask_line, turn_line, Line, WorldEvent, IsNext, IsWanted, Ask, Starved, Told, Turned, after_event, client_awaited, line_in, shelf_event, Stop, IsSound, Reached, Halted, Here, Now, Outset, did_line, is_one_step, shown_line, world_at, status_for, Awaits, OneStep, World, awaits_after, ended_line, has_open_call, names_closed, step_text, stepped, tally_closed, verb_at, AskFacts, last_asked, last_pushed, subst, false, None, Result, Ok, Err, IfErr, OnOk, OnErr, Answered, Request, HasStopCause, GoesOn, OpenCall, Tally, TheNext, IsErrAnd, StepsOn, WentOn, begun, call_at, calls_closed, calls_swept, came_to, goes_on, started, step_line, stepped_on}
+use Rattle.replay_run.proofs.Words.{◌≡◌, ◌≢◌, inl, inr, ℕ, Bool, true, List, [], ◌++◌, Option, Some, is_none, refl, sym, ◌∙◌, ap, append-nil, Appends, AppendsPrefix, Chain, Shelf, CallFacts, Want, WantAsk, WantTurn, want, Did, Stepped, ToldItem, HeapFacts, IsStepFor, IsStep, answered_by, holder_for, moment_after, answer_of, seat_at, ask_line, turn_line, Line, WorldEvent, IsNext, IsWanted, Ask, Starved, Told, Turned, after_event, client_awaited, line_in, shelf_event, Stop, IsSound, Reached, Halted, Here, Now, Outset, did_line, is_one_step, shown_line, world_at, status_for, Awaits, OneStep, World, awaits_after, ended_line, has_open_call, names_closed, step_text, stepped, tally_closed, verb_at, AskFacts, last_asked, subst, false, None, Result, Ok, Err, IfErr, OnOk, OnErr, Answered, Request, HasStopCause, GoesOn, OpenCall, Tally, TheNext, IsErrAnd, StepsOn, WentOn, begun, call_at, calls_closed, calls_swept, came_to, goes_on, started, step_line, stepped_on}
+use Rattle.std.proofs.Common.{◌∷◌, ◌+◌, arith, length, subst}
+use Rattle.std.proofs.Math.Seq.{get_or-append_seam}
+use Rattle.std.proofs.lemmas.List.{length-append}
+use Rattle.std.proofs.lemmas.Option.{slice_get-get_or}
+use Rattle.std.specs.List.{slice_get}
+use Rattle.hook_api.specs.Asked.{AskFacts}
+use Rattle.heap_core.specs.Logs.{last_asked}
 use Rattle.call_plan.specs.declared.needs.Answered.TheVariants.{NoMemory}
 use Rattle.replay_run.proofs.Begins.{printed_result}
 use Rattle.replay_run.proofs.Came.{Leads, came_next}
@@ -7,6 +14,12 @@ use Rattle.replay_run.proofs.Endings.{all_of, longer}
 use Rattle.replay_run.proofs.NewHeaps.{step_made}
 use Rattle.replay_run.proofs.Plays.{stepped_heap}
 use Rattle.replay_run.proofs.Stops.{stops_after}
+
+-- the ask that was made is the last one
+last_pushed : (heard : List AskFacts) (asked : AskFacts) → last_asked (heard ++ asked ∷ []) ≡ Some asked
+last_pushed heard asked =
+    let behind : length (heard ++ asked ∷ []) ≡ length heard + 1 = length-append heard (asked ∷ []) in
+    subst (λ k. slice_get (heard ++ asked ∷ []) k ≡ Some asked) (omega (arith, behind)) (slice_get-get_or (heard ++ asked ∷ []) (length heard) asked (omega (arith, behind)) ∙ ap Some (get_or-append_seam heard asked [] asked))
 
 -- What a step of a client is: an event that can come next, after which the heap is this one, and which does this to the shelf.
 -- Unless memory was wanting, the world after it is the one behind what the step told.

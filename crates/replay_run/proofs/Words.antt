@@ -126,7 +126,6 @@ pub use Rattle.replay_run.specs.declared.input.Found.TheVariants.{Line as FoundL
 pub use Rattle.replay_run.specs.declared.input.Stop.{Stop}
 pub use Rattle.replay_run.specs.declared.input.Stop.TheVariants.{ReadFault, WriteFault, NoMemory}
 pub use Rattle.heap_core.specs.Logs.{last_asked}
-pub use Rattle.heap_core.proofs.LastAsk.{last_pushed}
 pub use Rattle.call_plan.specs.Desks.{flushes}
 pub use Rattle.call_plan.specs.Runs.{batch_goes}
 pub use Rattle.call_plan.specs.declared.needs.Answered.TheVariants.{NoArena as NoSuchArena}

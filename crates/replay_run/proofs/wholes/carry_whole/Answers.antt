@@ -42,11 +42,11 @@ returns-clause-goes g c = λ from lines so.
     let out : CarriedOut h c.args.shelf.now c.args.client c.args.request c.run_on.new.heap c.run_on.new.shelf c.run_on.new.told.ended =
     (first.0 ++ ran.0, carried_more (started h c.args.client c.args.request) c.args.shelf.now c.args.client (answer_of (begun h.seats c.args.client c.args.request)) first.0 ran.0 c.carry.new.self c.run_on.new.heap c.args.shelf.now c.run_on.new.shelf c.carry.new.ended c.run_on.new.told.ended first.1 ran.1) in
     let stands : Stands c.run_on.new.heap = record { arenas = c.stands-2.ensures.arenas; clients = c.stands-2.ensures.clients; seats = c.stands-2.ensures.seats } in
-    let last = whole_came c.args.client c.args.verb c.args.request starts c.run_on.new.heap c.run_on.new.shelf c.in-Some.answer.now c.requires.client c.stands.ensures.clients c.requires.last c.args.state.now.full stands
+    let last = whole_came c.args.client c.args.verb c.args.request starts c.run_on.new.heap c.run_on.new.shelf c.in-Some.answer c.requires.client c.stands.ensures.clients c.requires.last c.args.state.now.full stands
     (subst (λ e. CarriedOut h c.args.shelf.now c.args.client c.args.request c.run_on.new.heap c.run_on.new.shelf e) c.in-Some.is out) in
-    let fed : c.in-Some.answer.now ≢ WasStarved = λ same. c.is_starved.ensures.fed c.if-is_starved.false (c.in-Some.is ∙ ap Some same) in
+    let fed : c.in-Some.answer ≢ WasStarved = λ same. c.is_starved.ensures.fed c.if-is_starved.false (c.in-Some.is ∙ ap Some same) in
     let rests = last.rests fed in
     let told = c.answer_call.ensures in
     rw (rests, awaits_ended c.args.client true) at
-    (answer_result (now_of c.args.state.now c.run_on.new.shelf held) c.args.client c.args.verb true last.text c.in-Some.answer.now c.run_on.new.heap c.answer_call.new.names c.count.new.self (g.K.Sink.held c.answer_call.new.sink)
+    (answer_result (now_of c.args.state.now c.run_on.new.shelf held) c.args.client c.args.verb true last.text c.in-Some.answer c.run_on.new.heap c.answer_call.new.names c.count.new.self (g.K.Sink.held c.answer_call.new.sink)
     (g.K.Sink.faults c.args.sink.now) (g.K.Sink.faults c.answer_call.new.sink) c.answer_call.result last.prints (last.came fed _) rests c.count.ensures told.names told.text told.beginning told.cause)
