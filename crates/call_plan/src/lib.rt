@@ -33,6 +33,3 @@ pub use laws::{
 pub use needs::{Answered, Given, Item, Need, Request, Turn};
 pub use points::{AskPoint, Change, Lead, Resize, Then, TurnPoint, Visit, Wish};
 pub use soon::whole_fit;
-
-#[cfg(test)]
-mod tests;

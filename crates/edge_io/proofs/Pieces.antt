@@ -1,9 +1,8 @@
 -- Reads and writes one after another, where known bytes stay known.
-use Rattle.std.proofs.Common.{◌≡◌, ℕ, ◌+◌, ◌-◌, ◌≤◌, inl, inr, List, ◌++◌, length, take, drop, Option, None, Some, sym, ◌∙◌, ap, append_assoc, length-append, arith}
-use Rattle.std.proofs.Math.Seq.{take-append_seam, drop-append_seam}
+use Rattle.std.proofs.Common.{◌≡◌, ℕ, ◌+◌, ◌-◌, ◌≤◌, List, ◌++◌, length, take, drop, Option, None, Some, sym, ◌∙◌, append_assoc, arith}
 use Rattle.std.proofs.lemmas.List.{drop-drop, take-append-drop}
 use Rattle.std.proofs.lemmas.Grind.{common_steps}
-use Rattle.edge_io.specs.Bytes.{Consumes, Appends, Keeps, Rose, taken, written}
+use Rattle.edge_io.specs.Bytes.{Consumes, Appends}
 
 -- two writes append the two pieces
 pub Appends-trans : (old mid new : Option (List ℕ)) (xs ys : List ℕ) → Appends old mid xs → Appends mid new ys →

@@ -2,7 +2,7 @@
 use Rattle.std.specs.Prelude.{ℕ, ◌+◌, List, Bool, Contains}
 
 -- the bytes that are left, how many a read gives at most, the ordinals of the calls that fail, the calls so far, the faults,
--- and whether the end was met
+-- whether the end was met, and whether a read has begun while bytes waited in the sink that it was shown
 pub record PlannedSource : Type 0 where
   pub left : List ℕ
   pub most : ℕ
@@ -10,6 +10,7 @@ pub record PlannedSource : Type 0 where
   pub calls : ℕ
   pub faults : ℕ
   pub ended : Bool
+  pub hasty : Bool
 
 -- the bytes that are held, how many a write takes at most, the ordinals of the calls that fail, the calls so far, the faults,
 -- and whether bytes were written behind the last flush

@@ -11,19 +11,22 @@ pub struct ReadEdge<R> {
     inner: R,
     faults: u64,
     ended: bool,
+    hasty: bool,
 }
 
 impl<R: Read> ReadEdge<R> {
-    /// The reader as a source that has neither failed nor ended.
+    /// The reader as a source that wasn't read.
     pub fn new(inner: R) -> ReadEdge<R>
         ensures left { ⟦<ReadEdge<R> as Source>⟧.left result ≡ R.remaining inner }
         ensures faults { ⟦<ReadEdge<R> as Source>⟧.faults result ≡ 0 }
         ensures ended { ⟦<ReadEdge<R> as Source>⟧.ended result ≡ false }
+        ensures hasty { ⟦<ReadEdge<R> as Source>⟧.hasty result ≡ false }
     {
         ReadEdge {
             inner,
             faults: 0,
             ended: false,
+            hasty: false,
         }
     }
 }
@@ -35,7 +38,10 @@ impl<R: Read> Source for ReadEdge<R> {
 
     ghost ended = { λ edge. edge.ended };
 
-    fn read(&mut self, buf: &mut [u8]) -> Result<usize, Failed> {
+    ghost hasty = { λ edge. edge.hasty };
+
+    fn read<K: Sink>(&mut self, sink: &K, buf: &mut [u8]) -> Result<usize, Failed> {
+        self.hasty |= sink.is_waiting();
         let Ok(n) = self.inner.read(buf) else {
             count_fault(&mut self.faults);
             return Err(Failed);
@@ -76,6 +82,10 @@ impl<W: Write> Sink for WriteEdge<W> {
     ghost faults = { λ edge. edge.faults };
 
     ghost waits = { λ edge. edge.waits };
+
+    fn is_waiting(&self) -> bool {
+        self.waits
+    }
 
     fn write(&mut self, piece: &[u8]) -> Result<usize, Failed> {
         let Ok(n) = self.inner.write(piece) else {

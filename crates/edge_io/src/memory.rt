@@ -18,6 +18,7 @@ pub struct MemSource {
     calls: u64,
     faults: u64,
     ended: bool,
+    hasty: bool,
 }
 
 impl Model for MemSource {
@@ -33,6 +34,7 @@ impl Model for MemSource {
       calls = s.calls;
       faults = s.faults;
       ended = s.ended;
+      hasty = s.hasty;
     } };
 
     // A read may give a byte, and where the end was met, nothing is left.
@@ -49,6 +51,7 @@ impl MemSource {
         ensures calls { result.calls ≡ 0 }
         ensures faults { result.faults ≡ 0 }
         ensures ended { result.ended ≡ false }
+        ensures hasty { result.hasty ≡ false }
     {
         MemSource::pieces(bytes, fail, u64::MAX)
     }
@@ -62,6 +65,7 @@ impl MemSource {
         ensures calls { result.calls ≡ 0 }
         ensures faults { result.faults ≡ 0 }
         ensures ended { result.ended ≡ false }
+        ensures hasty { result.hasty ≡ false }
     {
         MemSource {
             bytes,
@@ -71,7 +75,15 @@ impl MemSource {
             calls: 0,
             faults: 0,
             ended: false,
+            hasty: false,
         }
+    }
+
+    /// Whether a read has begun while bytes waited in the sink that it was shown.
+    pub fn was_hasty(&self) -> bool
+        ensures { result ≡ self.now.hasty }
+    {
+        self.hasty
     }
 
     /// Whether a read has met the end. Nothing is left then.
@@ -90,12 +102,15 @@ impl Source for MemSource {
 
     ghost ended = { λ s. s.ended };
 
-    fn read(&mut self, buf: &mut [u8]) -> Result<usize, Failed>
+    ghost hasty = { λ s. s.hasty };
+
+    fn read<K: Sink>(&mut self, sink: &K, buf: &mut [u8]) -> Result<usize, Failed>
         ensures bound { IfOk result (λ n. n ≤ length buf.new) }
         ensures moved { IfOk result (λ n. self.old.left ≡ take n buf.new ++ self.new.left) }
         ensures count { IfOk result (λ n. n ≡ min (min self.old.most (length buf.old)) (length self.old.left)) }
         ensures end { IfOk result (λ n. n ≡ 0 → 0 < length buf.old → self.new.left ≡ []) }
         ensures mark { self.new.ended ≡ (self.old.ended || is_end result (length buf.old)) }
+        ensures haste { self.new.hasty ≡ (self.old.hasty || K.waits sink.now) }
         ensures planned { IsErr result ↔ FailsNext self.old.fail self.old.calls }
         ensures failed { OnErr result (Rose self.old.faults self.new.faults) }
         ensures kept { OnErr result (self.new.left ≡ self.old.left) }
@@ -106,6 +121,7 @@ impl Source for MemSource {
         ensures most { self.new.most ≡ self.old.most }
         ensures calls { self.new.calls ≡ min (self.old.calls + 1) (2 ^ 64 - 1) }
     {
+        self.hasty |= sink.is_waiting();
         if is_planned(&self.fail, &mut self.calls) {
             count_fault(&mut self.faults);
             return Err(Failed);
@@ -218,6 +234,10 @@ impl Sink for MemSink {
     ghost faults = { λ s. s.faults };
 
     ghost waits = { λ s. s.waits };
+
+    fn is_waiting(&self) -> bool {
+        self.waits
+    }
 
     fn write(&mut self, piece: &[u8]) -> Result<usize, Failed>
         ensures count { IfOk result (λ n. n ≡ min self.old.most (length piece.now)) }

@@ -7,6 +7,9 @@ ghost use Rattle.edge_io.specs.Bytes.{Consumes, Appends, Keeps, IsAtEnd, Rose, i
 pub struct Failed;
 
 /// Where bytes are read from. Its count of faults never falls.
+///
+/// Each read is shown the sink to which the answers go, so that a source can tell whether it was asked for more while one of them
+/// still waited there.
 pub trait Source {
     /// The bytes that are left, where the source tells them.
     ghost left: { Self → Option (List ℕ) };
@@ -17,15 +20,19 @@ pub trait Source {
     /// Whether a read into a buffer that isn't empty has answered 0.
     ghost ended: { Self → Bool };
 
+    /// Whether a read has begun while bytes waited in the sink that it was shown.
+    ghost hasty: { Self → Bool };
+
     /// Moves the next bytes to the front of the buffer, and gives how many they are. 0 is the end of
     /// input, where the buffer isn't empty. What stands in the buffer behind them is left open.
     ///
     /// `Failed` comes only where the count of faults rose, and moves nothing.
-    fn read(&mut self, buf: &mut [u8]) -> Result<usize, Failed>
+    fn read<K: Sink>(&mut self, sink: &K, buf: &mut [u8]) -> Result<usize, Failed>
         ensures bound { IfOk result (λ n. n ≤ length buf.new) }
         ensures moved { IfOk result (λ n. Consumes (left self.old) (left self.new) (take n buf.new)) }
         ensures end { IfOk result (λ n. n ≡ 0 → 0 < length buf.old → IsAtEnd (left self.new)) }
         ensures mark { ended self.new ≡ (ended self.old || is_end result (length buf.old)) }
+        ensures haste { hasty self.new ≡ (hasty self.old || K.waits sink.now) }
         ensures failed { OnErr result (Rose (faults self.old) (faults self.new)) }
         ensures kept { OnErr result (Keeps (left self.old) (left self.new)) }
         ensures unfailed { OnOk result (faults self.new ≡ faults self.old) }
@@ -43,6 +50,10 @@ pub trait Sink {
 
     /// Whether bytes were written behind the last flush that didn't fail, so that some may wait in the sink.
     ghost waits: { Self → Bool };
+
+    /// Whether bytes were written behind the last flush that didn't fail.
+    fn is_waiting(&self) -> bool
+        ensures { result ≡ waits self.now };
 
     /// Appends the first bytes of the piece, and gives how many they are.
     ///

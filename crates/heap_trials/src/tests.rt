@@ -3,4 +3,5 @@
 mod carried;
 mod desks;
 mod heaps;
+mod scripts;
 mod turns;

@@ -108,6 +108,7 @@ pub fn run<R: Threads + Wait + Sync, S: Source, K: Sink, H: ExtentHooks + Send>(
     ensures replay { (form : Closing) → IsReplay (map string_bytes words.now) form → Replays form (run_facts result.status result.shelf result.journals result.heard result.chunks) shelf
         (source_facts (S.left source.old) (S.ended source.old) (S.faults source.old)) (source_facts (S.left source.new) (S.ended source.new) (S.faults source.new))
         (sink_facts (K.held sink.old) (K.faults sink.old) (K.waits sink.old)) (sink_facts (K.held sink.new) (K.faults sink.new) (K.waits sink.new)) }
+    ensures patient { (form : Closing) → IsReplay (map string_bytes words.now) form → S.hasty source.new ≡ S.hasty source.old }
     ensures soak { (start : ℕ) (calls : ℕ) → IsSoak (map string_bytes words.now) start calls
         → Soaks start calls (run_facts result.status result.shelf result.journals result.heard result.chunks) shelf
         (sink_facts (K.held sink.old) (K.faults sink.old) (K.waits sink.old)) (sink_facts (K.held sink.new) (K.faults sink.new) (K.waits sink.new)) }

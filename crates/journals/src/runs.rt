@@ -4,12 +4,11 @@ ghost use Rattle.journals.specs.Runs.{PrintsAsks, PrintsJournals, PrintsRun};
 
 use crate::asks::heard_text;
 use crate::words::{Printed, SINK_FAILED};
-use edge_io::{Failed, Sink, Source, WriteEdge, write_whole};
+use edge_io::{Failed, Quiet, Sink, Source, write_whole};
 use hook_api::{ExtentHooks, HookShelf};
 use journal::put_journals;
 use replay_run::{Closing, replay};
 use std::alloc::Global;
-use std::io;
 
 /// Memory was wanting.
 pub const NO_MEMORY: u8 = 6;
@@ -23,13 +22,7 @@ fn print_journals<S: Source, K: Sink, H: ExtentHooks>(
 ) -> u8
     ensures prints { PrintsJournals result shelf (S.ended source.new) (S.left source.old) (S.left source.new) (K.held sink.old) (K.held sink.new) }
 {
-    let replayed = replay(
-        alloc,
-        source,
-        &mut WriteEdge::new(io::sink()),
-        shelf,
-        Closing::Lines,
-    );
+    let replayed = replay(alloc, source, &mut Quiet::new(), shelf, Closing::Lines);
     let mut text = Vec::new(alloc);
     let Ok(()) = put_journals(alloc, &mut text, replayed.journals.as_slice()) else {
         return NO_MEMORY;
@@ -49,13 +42,7 @@ fn print_asks<S: Source, K: Sink, H: ExtentHooks>(
 ) -> u8
     ensures prints { PrintsAsks result shelf (S.ended source.new) (S.left source.old) (S.left source.new) (K.held sink.old) (K.held sink.new) }
 {
-    let replayed = replay(
-        alloc,
-        source,
-        &mut WriteEdge::new(io::sink()),
-        shelf,
-        Closing::Lines,
-    );
+    let replayed = replay(alloc, source, &mut Quiet::new(), shelf, Closing::Lines);
     let Ok(text) = heard_text(alloc, &replayed.heard) else {
         return NO_MEMORY;
     };

@@ -1,5 +1,5 @@
 -- The bytes that aren't used yet.
-use Rattle.std.proofs.Common.{◌∙◌, ℕ, List, Option, None, Some, refl}
+use Rattle.std.proofs.Common.{◌∙◌, ℕ, List, Option, None, Some}
 use Rattle.line_reader.specs.Lines.{SameUnread}
 
 -- they stay what they are through two reads

@@ -4,7 +4,7 @@ ghost use Rattle.std.specs.Prelude.{◌≡◌, ◌++◌, ◌+◌, ◌<◌, ◌�
 ghost use Rattle.line_reader.specs.Lines.{HasNoNewline, HasStopCause, IsFirst, IsMore, MetEnd, SameUnread, is_whole_line};
 
 use crate::Stop;
-use edge_io::Source;
+use edge_io::{Quiet, Source};
 use memchr::memchr;
 use std::alloc::{AllocError as NoMemory, Global};
 use std::marker::Model;
@@ -81,7 +81,7 @@ impl Pending {
     }
 
     /// Puts bytes at the end. After an `Err` they are as they were.
-    fn extend(&mut self, piece: &[u8]) -> Result<(), NoMemory>
+    pub fn extend(&mut self, piece: &[u8]) -> Result<(), NoMemory>
         ensures ok { OnOk result (self.new ≡ self.old ++ piece.now) }
         ensures err { OnErr result (self.new ≡ self.old) }
     {
@@ -105,7 +105,8 @@ fn line_in(bytes: &[u8], seen: usize, most: u64) -> Option<Found>
     }
 }
 
-/// Reads the next bytes of the source behind the pending ones, and gives how many they are: 0 at the end of the input.
+/// Reads the next bytes of the source behind the pending ones, and gives how many they are: 0 at the end of the input. The read is
+/// shown a sink to which nothing was written: no answer comes before all lines were read.
 fn read_more<S: Source>(source: &mut S, pending: &mut Pending) -> Result<usize, Stop>
     ensures same { IfOk result (λ _. SameUnread pending.old (S.left source.old) pending.new (S.left source.new)) }
     ensures more { IfOk result (λ count. IsMore count pending.old pending.new (S.left source.new) (S.ended source.new)) }
@@ -113,7 +114,7 @@ fn read_more<S: Source>(source: &mut S, pending: &mut Pending) -> Result<usize, 
     ensures counts { S.faults source.old ≤ S.faults source.new }
 {
     let mut buf = [0u8; READ_BYTES];
-    let Ok(count) = source.read(&mut buf) else {
+    let Ok(count) = source.read(&Quiet::new(), &mut buf) else {
         return Err(Stop::ReadFault);
     };
     pending.extend(&buf[..count])?;

@@ -1,7 +1,7 @@
 //! Lines from a source.
 
-ghost use Rattle.std.specs.Prelude.{◌≤◌, ◌≡◌, ◌<◌, ◌++◌, ◌||◌, IsTrue, ℕ, List, [], drop, false, take, Option, None, Bool, length, IfOk, IfErr, IfSome, OnOk, OnErr};
-ghost use Rattle.edge_io.specs.Bytes.{Consumes, IsAtEnd, Keeps, Rose, is_end};
+ghost use Rattle.std.specs.Prelude.{◌≤◌, ◌≡◌, ◌<◌, ◌++◌, IsTrue, ℕ, List, [], drop, false, take, Option, None, Bool, length, IfOk, IfErr, IfSome, OnOk, OnErr};
+ghost use Rattle.edge_io.specs.Bytes.{Consumes, IsAtEnd, Keeps};
 ghost use Rattle.trace_text.specs.Lines.{HasNoNewline};
 ghost use Rattle.replay_run.specs.declared.input.Stop.TheVariants.{ReadFault};
 ghost use Rattle.replay_run.specs.Stops.{HasStopCause};
@@ -11,10 +11,10 @@ ghost use Rattle.replay_run.specs.Input.{InBounds, IsFirst, IsReading, MetEnd, T
 
 use crate::prints::flush;
 use edge_io::{Failed, Sink, Source};
+use line_reader::Pending;
 use memchr::memchr;
 use report_text::Cause;
 use std::alloc::{AllocError as NoMemory, Global};
-use std::marker::Model;
 use trace_text::{Line, LineFault};
 
 /// How many bytes a line has at most, without its newline.
@@ -56,62 +56,6 @@ pub enum Found {
     End,
 }
 
-/// Bytes that were read and aren't used yet, seen as their list.
-#[derive(Drop)]
-pub struct Pending {
-    bytes: Vec<u8>,
-    at: usize,
-}
-
-impl Model for Pending {
-    ghost use Rattle.std.specs.Prelude.{ℕ, ◌≤◌, List, drop, length};
-
-    ghost Value = { List ℕ };
-
-    ghost view = { λ p. drop p.at p.bytes.items };
-
-    ghost invariant = { λ p. p.at ≤ length p.bytes.items };
-}
-
-impl Pending {
-    /// No bytes. Takes no memory.
-    pub fn new(alloc: Global) -> Pending
-        ensures { result ≡ [] }
-    {
-        Pending {
-            bytes: Vec::new(alloc),
-            at: 0,
-        }
-    }
-
-    /// The bytes, in order.
-    pub fn as_slice(&self) -> &[u8]
-        ensures { result.now ≡ self.now }
-    {
-        &self.bytes[self.at..]
-    }
-
-    /// Drops the first bytes, so many.
-    pub fn skip(&mut self, count: usize)
-        requires { count ≤ length self.old }
-        ensures { self.new ≡ drop count self.old }
-    {
-        self.at += count;
-    }
-
-    /// Puts bytes at the end. After an `Err` they are as they were.
-    fn extend(&mut self, piece: &[u8]) -> Result<(), NoMemory>
-        ensures ok { OnOk result (self.new ≡ self.old ++ piece.now) }
-        ensures err { OnErr result (self.new ≡ self.old) }
-    {
-        let count = self.bytes.len() - self.at;
-        self.bytes.copy_within(self.at.., 0);
-        self.bytes.truncate(count);
-        self.at = 0;
-        self.bytes.extend_from_slice(piece)
-    }
-}
-
 /// Where the first newline stands among the bytes of a line, or that they are too many for one.
 fn line_in(pending: &[u8]) -> Option<Found>
     ensures bounds { IfSome result (λ found. InBounds found pending.now) }
@@ -124,22 +68,6 @@ fn line_in(pending: &[u8]) -> Option<Found>
         _ if pending.len() > LINE_BYTES => Some(Found::TooLong),
         _ => None,
     }
-}
-
-/// Reads the next bytes of the source into the buffer, and gives how many they are, as the source does. All reads of this crate
-/// are made here, and only while nothing waits in the sink: so what was printed is handed on before more input is waited for.
-fn read_some<S: Source, K: Sink>(source: &mut S, sink: &K, buf: &mut [u8]) -> Result<usize, Failed>
-    requires handed_on { K.waits sink.now ≡ false }
-    ensures bound { IfOk result (λ n. n ≤ length buf.new) }
-    ensures moved { IfOk result (λ n. Consumes (S.left source.old) (S.left source.new) (take n buf.new)) }
-    ensures end { IfOk result (λ n. n ≡ 0 → 0 < length buf.old → IsAtEnd (S.left source.new)) }
-    ensures mark { S.ended source.new ≡ (S.ended source.old || is_end result (length buf.old)) }
-    ensures failed { OnErr result (Rose (S.faults source.old) (S.faults source.new)) }
-    ensures kept { OnErr result (Keeps (S.left source.old) (S.left source.new)) }
-    ensures unfailed { OnOk result (S.faults source.new ≡ S.faults source.old) }
-    ensures counts { S.faults source.old ≤ S.faults source.new }
-{
-    source.read(buf)
 }
 
 /// Reads until the pending bytes begin with a line, or can't. What waits in the sink is handed on before each read.
@@ -158,6 +86,7 @@ fn read_to_line<S: Source, K: Sink>(
     ensures cause { IfErr result (λ stop. HasStopCause stop (S.faults source.old) (S.faults source.new) (K.faults sink.old) (K.faults sink.new)) }
     ensures unfailed { OnOk result (S.faults source.new ≡ S.faults source.old) }
     ensures sink_unfailed { OnOk result (K.faults sink.new ≡ K.faults sink.old) }
+    ensures patient { S.hasty source.new ≡ S.hasty source.old }
     ensures counts { S.faults source.old ≤ S.faults source.new }
     ensures sink_counts { K.faults sink.old ≤ K.faults sink.new }
 {
@@ -167,7 +96,7 @@ fn read_to_line<S: Source, K: Sink>(
         }
         flush(sink)?;
         let mut buf = [0u8; READ_BYTES];
-        match read_some(source, sink, &mut buf) {
+        match source.read(sink, &mut buf) {
             Ok(0) => return Ok(Found::End),
             Ok(count) => pending.extend(&buf[..count])?,
             Err(Failed) => return Err(Stop::ReadFault),
@@ -191,6 +120,7 @@ pub fn find_line<S: Source, K: Sink>(
     ensures cause { IfErr result (λ stop. HasStopCause stop (S.faults source.old) (S.faults source.new) (K.faults sink.old) (K.faults sink.new)) }
     ensures unfailed { OnOk result (S.faults source.new ≡ S.faults source.old) }
     ensures sink_unfailed { OnOk result (K.faults sink.new ≡ K.faults sink.old) }
+    ensures patient { S.hasty source.new ≡ S.hasty source.old }
     ensures counts { S.faults source.old ≤ S.faults source.new }
     ensures sink_counts { K.faults sink.old ≤ K.faults sink.new }
 {
@@ -212,6 +142,7 @@ pub fn has_more<S: Source, K: Sink>(
     ensures cause { IfErr result (λ stop. HasStopCause stop (S.faults source.old) (S.faults source.new) (K.faults sink.old) (K.faults sink.new)) }
     ensures unfailed { OnOk result (S.faults source.new ≡ S.faults source.old) }
     ensures sink_unfailed { OnOk result (K.faults sink.new ≡ K.faults sink.old) }
+    ensures patient { S.hasty source.new ≡ S.hasty source.old }
     ensures counts { S.faults source.old ≤ S.faults source.new }
     ensures sink_counts { K.faults sink.old ≤ K.faults sink.new }
 {
@@ -220,7 +151,7 @@ pub fn has_more<S: Source, K: Sink>(
     }
     flush(sink)?;
     let mut buf = [0u8; READ_BYTES];
-    match read_some(source, sink, &mut buf) {
+    match source.read(sink, &mut buf) {
         Ok(count) => Ok(count > 0),
         Err(Failed) => Err(Stop::ReadFault),
     }

@@ -8,41 +8,6 @@ ghost use Rattle.replay_run.specs.Stops.{HasStopCause};
 use crate::input::Stop;
 use edge_io::{Failed, Sink, write_all};
 
-/// A sink that drops what is written to it, and doesn't tell it. It never fails.
-#[derive(Drop)]
-pub struct Quiet {
-    waits: bool,
-}
-
-impl Quiet {
-    /// A sink to which nothing was written.
-    pub fn new() -> Quiet
-        ensures waits { ⟦<Quiet as Sink>⟧.waits result ≡ false }
-    {
-        Quiet { waits: false }
-    }
-}
-
-impl Sink for Quiet {
-    ghost use Rattle.std.specs.Prelude.{None};
-
-    ghost held = { λ _. None };
-
-    ghost faults = { λ _. 0 };
-
-    ghost waits = { λ quiet. quiet.waits };
-
-    fn write(&mut self, piece: &[u8]) -> Result<usize, Failed> {
-        self.waits |= !piece.is_empty();
-        Ok(piece.len())
-    }
-
-    fn flush(&mut self) -> Result<(), Failed> {
-        self.waits = false;
-        Ok(())
-    }
-}
-
 /// Writes all of a text.
 pub fn print<K: Sink>(sink: &mut K, text: &[u8]) -> Result<(), Stop>
     ensures text { OnOk result (Appends (K.held sink.old) (K.held sink.new) text.now) }

@@ -15,7 +15,7 @@ ghost use Rattle.replay_run.specs.Controls.{opening_controls};
 ghost use Rattle.replay_run.specs.World.{closing, closing_line, live_counts, no_answers};
 
 use crate::counts::all_counts;
-use crate::input::{Found, Pending, Stop, find_line, has_more, read_line};
+use crate::input::{Found, Stop, find_line, has_more, read_line};
 use crate::lines::carry_line;
 use crate::prints::{flush, print};
 use crate::state::State;
@@ -23,6 +23,7 @@ use edge_io::{Sink, Source};
 use heap_core::ARENAS;
 use heap_stats::json;
 use hook_api::{Askeds, ExtentHooks, HookShelf, Journals};
+use line_reader::Pending;
 use report_text::{Cause, bad_line, counts_line};
 use space_model::Counts;
 use std::alloc::{AllocError as NoMemory, Global};
@@ -108,6 +109,7 @@ fn next_line<S: Source, K: Sink, H: ExtentHooks>(
     ensures cause { IfErr result (λ stop. HasStopCause stop (S.faults source.old) (S.faults source.new) (K.faults sink.old) (K.faults sink.new)) }
     ensures unfailed { OnOk result (S.faults source.new ≡ S.faults source.old) }
     ensures sink_unfailed { OnOk result (K.faults sink.new ≡ K.faults sink.old) }
+    ensures patient { S.hasty source.new ≡ S.hasty source.old }
     ensures source_counts { S.faults source.old ≤ S.faults source.new }
     ensures sink_counts { K.faults sink.old ≤ K.faults sink.new }
 {
@@ -238,6 +240,7 @@ fn run_lines<S: Source, K: Sink, H: ExtentHooks>(
     ensures cause { IfErr result (λ stop. HasStopCause stop (S.faults source.old) (S.faults source.new) (K.faults sink.old) (K.faults sink.new)) }
     ensures unfailed { OnOk result (S.faults source.new ≡ S.faults source.old) }
     ensures sink_unfailed { OnOk result (K.faults sink.new ≡ K.faults sink.old) }
+    ensures patient { S.hasty source.new ≡ S.hasty source.old }
     ensures source_counts { S.faults source.old ≤ S.faults source.new }
     ensures sink_counts { K.faults sink.old ≤ K.faults sink.new }
 {
@@ -354,6 +357,7 @@ pub fn replay<S: Source, K: Sink, H: ExtentHooks>(
     ensures unfailed { IsWholeStatus result.status → S.faults source.new ≡ S.faults source.old }
     ensures sink_unfailed { IsWholeStatus result.status → K.faults sink.new ≡ K.faults sink.old }
     ensures handed_on { IsWholeStatus result.status → K.waits sink.new ≡ false }
+    ensures patient { S.hasty source.new ≡ S.hasty source.old }
     ensures known { IsReplayStatus result.status }
 {
     let mut shelf = shelf;

@@ -17,10 +17,9 @@ ghost use Rattle.replay_run.specs.World.{Nothing, closing, no_answers};
 
 use crate::input::Stop;
 use crate::lines::carry_line;
-use crate::prints::Quiet;
 use crate::replays::{Replayed, closing_text, leave, nothing, print_last};
 use crate::state::State;
-use edge_io::Sink;
+use edge_io::{Quiet, Sink};
 use hook_api::{ExtentHooks, HookShelf};
 use report_text::calls_line;
 use std::alloc::{AllocError as NoMemory, Global};

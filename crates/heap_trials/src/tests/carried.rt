@@ -68,7 +68,7 @@ fn carry(
     (ended, rests)
 }
 
-/// Both heaps carry a request out, and answer the same region, or that all is done. Its address is told, or 0.
+/// Both heaps carry a request out, and answer the same region, or no region. Its address is told, or 0.
 fn ask_both(rt: &impl Abort, alloc: Global, pair: &mut Pair, request: Request) -> u64
     requires range { IsInRange request }
 {
@@ -159,4 +159,41 @@ fn cached_regions_come_and_go_at_once(rt: HostRuntime) {
     let mut pair = new_pair(&rt, alloc);
     ask_for_cached(&rt, alloc, &mut pair);
     leave_alike(&rt, pair);
+}
+
+/// Calls of small and large classes, some of which end where they begin.
+fn ask_for_mixed(rt: &impl Abort, alloc: Global, pair: &mut Pair) {
+    let first = ask_both(rt, alloc, pair, Request::Malloc { size: 20000 });
+    let second = ask_both(rt, alloc, pair, Request::Malloc { size: 9 });
+    let third = ask_both(rt, alloc, pair, Request::Malloc { size: 20000 });
+    ask_both(rt, alloc, pair, Request::Free { addr: first });
+    ask_both(rt, alloc, pair, Request::Free { addr: third });
+    ask_both(rt, alloc, pair, Request::Malloc { size: 20000 });
+    ask_both(rt, alloc, pair, Request::Malloc { size: 9 });
+    ask_both(rt, alloc, pair, Request::Free { addr: second });
+}
+
+/// Has both boxes refuse the ask of a kind with this ordinal, and gives how many of the calls end where they begin.
+fn refuse(rt: &impl Abort, alloc: Global, kind: Kind, nth: u64) -> u32 {
+    let mut pair = new_pair(rt, alloc);
+    pair.carried.shelf.plan(0, kind, nth);
+    pair.stepped.shelf.plan(0, kind, nth);
+    ask_for_mixed(rt, alloc, &mut pair);
+    let at_once = pair.at_once;
+    leave_alike(rt, pair);
+    at_once
+}
+
+/// Of eight calls, how many end where they begin while each of the first four asks of a kind is refused in turn.
+fn at_once_without(rt: &impl Abort, alloc: Global, kind: Kind) -> [u32; 4] {
+    [1, 2, 3, 4].map(|nth| refuse(rt, alloc, kind, nth))
+}
+
+#[test]
+fn refused_asks_lead_both_ways_alike(rt: HostRuntime) {
+    let alloc = rt.alloc();
+    assert_eq!(&rt; at_once_without(&rt, alloc, Kind::Alloc), [4, 3, 3, 3]);
+    assert_eq!(&rt; at_once_without(&rt, alloc, Kind::Commit), [3, 3, 3, 3]);
+    assert_eq!(&rt; at_once_without(&rt, alloc, Kind::Split), [4, 2, 3, 3]);
+    assert_eq!(&rt; at_once_without(&rt, alloc, Kind::Merge), [3, 3, 3, 3]);
 }

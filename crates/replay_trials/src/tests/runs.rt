@@ -42,6 +42,8 @@ pub(super) struct Outcome {
     pub(super) status: u8,
     pub(super) report: Vec<u8>,
     pub(super) asks: Seq<Asked>,
+    /// Whether more input was read while an answer waited in the sink.
+    pub(super) hasty: bool,
 }
 
 /// Replays a trace from a source and into a sink, over the boxes of a shelf.
@@ -63,6 +65,7 @@ pub(super) fn replayed<H: ExtentHooks>(
         status: run.status,
         report: sink.held().to_vec(alloc)?,
         asks: run.heard.to_list(alloc)?,
+        hasty: source.was_hasty(),
     })
 }
 

@@ -69,6 +69,7 @@ fn fail_each(rt: &impl Abort, alloc: Global, end: End, most: u64) -> Result<u64,
     for failing in 1..=CALLS {
         let streams = end.streams(Stream { most, failing });
         let run = replayed(alloc, TRACE, streams, rising(rt, alloc)?)?;
+        assert!(rt; !run.hasty, "call {failing} of {most} bytes");
         if run.status == 0 {
             assert_eq!(rt;
                 run.report.as_slice(),

@@ -9,5 +9,6 @@ invariant-loop g l = record {
   grew : l.counter ≤ length l.pending;
   kept : Keeps (g.K.Sink.held l.initial.sink) (g.K.Sink.held l.sink);
   sink_faults : g.K.Sink.faults l.sink ≡ g.K.Sink.faults l.initial.sink;
+  patient : g.S.Source.hasty l.source ≡ g.S.Source.hasty l.initial.source;
   few : l.counter ≤ 257;
 }

@@ -12,6 +12,7 @@ loop-count-init g c = record {
     read = read_none _ _ c.new-pending.ensures refl;
     here = here_none _ _ c.requires.heap c.requires.calls c.requires.names c.requires.tally c.requires.controls c.requires.moment refl refl (record { arenas = c.stands.ensures.arenas; seats = c.stands.ensures.seats });
   };
+  patient = refl;
   source_faults = omega (arith);
   sink_faults = omega (arith);
 }
@@ -37,6 +38,7 @@ returns-in-Over-clause-replay g c =
 pub loop-count-preserved : goal.loop-count-preserved
 loop-count-preserved g c = record {
   here = rw c.in-Carried.is at (c.in_ok-next_line.ensures.goes _ _ c.loop-count.count c.loop-count-test.true c.loop-count.invariant.here);
+  patient = c.next_line.ensures.patient ∙ c.loop-count.invariant.patient;
   source_faults = omega (arith, c.loop-count.invariant.source_faults, c.in_ok-next_line.ensures.unfailed);
   sink_faults = omega (arith, c.loop-count.invariant.sink_faults, c.in_ok-next_line.ensures.sink_unfailed);
 }

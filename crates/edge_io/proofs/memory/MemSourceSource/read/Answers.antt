@@ -4,7 +4,7 @@ use Rattle.edge_io.proofs.memory.MemSourceSource.read.Goals as goal
 use Rattle.edge_io.proofs.memory.MemSourceSource.read.Goals.{else-n-eq0-via-then-n-eq0+else-not-is_empty, else-n-eq0-via-else-n-eq0}
 
 pub returns-else-n-eq0-clause-moved : goal.returns-else-n-eq0-clause-moved
-returns-else-n-eq0-clause-moved c =
+returns-else-n-eq0-clause-moved g c =
     let bytes = c.self.inside.bytes.items in
     let at = c.self.inside.at in
     let n = c.min-n.result in
