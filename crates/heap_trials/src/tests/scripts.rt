@@ -38,14 +38,13 @@ fn ask(rt: &impl Abort, alloc: Global, play: &mut Play, request: Request) -> u64
 fn ends_with(rt: &impl Abort, alloc: Global, journal: &Journal, ops: &[&str]) -> bool {
     let entries = journal.kept.to_list(alloc).expect(rt, "memory for entries");
     let first = entries.as_slice().len().saturating_sub(ops.len());
-    let mut count = 0;
     for (kept, op) in entries.as_slice()[first..].iter().zip(ops) {
         let text = format!(in alloc; "{:?}", kept.entry().op).expect(rt, "memory for a text");
         assert!(rt; text.as_str().starts_with(op), "{text} is not {op}");
-        count += 1;
     }
+    let whole = ops.len() <= entries.as_slice().len();
     drop(entries);
-    count == ops.len()
+    whole
 }
 
 /// The last entries of arenas from arena 0 on have operations that are written so, or begin so.
