@@ -4,23 +4,37 @@ ghost use Rattle.std.specs.Prelude.{◌≡◌, false};
 use crate::traits::count_fault;
 use crate::{Failed, Sink, Source};
 use std::io::{Read, Write};
+use std::marker::Model;
 
-/// A reader as a source. It tells what the reader tells.
+/// A reader as a source. It tells what the reader tells. Contracts see it as `ReaderFacts`.
 #[derive(Drop)]
-pub struct ReadEdge<R> {
+pub struct ReadEdge<R: Read> {
     inner: R,
     faults: u64,
     ended: bool,
     hasty: bool,
 }
 
+impl<R: Read> Model for ReadEdge<R> {
+    ghost use Rattle.edge_io.specs.Reader.{ReaderFacts};
+
+    ghost Value = { ReaderFacts };
+
+    ghost view = { λ edge. record {
+      left = R.remaining edge.inner;
+      faults = edge.faults;
+      ended = edge.ended;
+      hasty = edge.hasty;
+    } };
+}
+
 impl<R: Read> ReadEdge<R> {
     /// The reader as a source that wasn't read.
     pub fn new(inner: R) -> ReadEdge<R>
-        ensures left { ⟦<ReadEdge<R> as Source>⟧.left result ≡ R.remaining inner }
-        ensures faults { ⟦<ReadEdge<R> as Source>⟧.faults result ≡ 0 }
-        ensures ended { ⟦<ReadEdge<R> as Source>⟧.ended result ≡ false }
-        ensures hasty { ⟦<ReadEdge<R> as Source>⟧.hasty result ≡ false }
+        ensures left { result.left ≡ R.remaining inner }
+        ensures faults { result.faults ≡ 0 }
+        ensures ended { result.ended ≡ false }
+        ensures hasty { result.hasty ≡ false }
     {
         ReadEdge {
             inner,
@@ -31,8 +45,8 @@ impl<R: Read> ReadEdge<R> {
     }
 }
 
-impl<R: Read> Source for ReadEdge<R> {
-    ghost left = { λ edge. R.remaining edge.inner };
+impl<R: Read, K: Sink> Source<K> for ReadEdge<R> {
+    ghost left = { λ edge. edge.left };
 
     ghost faults = { λ edge. edge.faults };
 
@@ -40,7 +54,7 @@ impl<R: Read> Source for ReadEdge<R> {
 
     ghost hasty = { λ edge. edge.hasty };
 
-    fn read<K: Sink>(&mut self, sink: &K, buf: &mut [u8]) -> Result<usize, Failed> {
+    fn read(&mut self, sink: &K, buf: &mut [u8]) -> Result<usize, Failed> {
         self.hasty |= sink.is_waiting();
         let Ok(n) = self.inner.read(buf) else {
             count_fault(&mut self.faults);

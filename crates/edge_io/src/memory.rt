@@ -95,7 +95,7 @@ impl MemSource {
     }
 }
 
-impl Source for MemSource {
+impl<K: Sink> Source<K> for MemSource {
     ghost left = { λ s. Some s.left };
 
     ghost faults = { λ s. s.faults };
@@ -104,7 +104,7 @@ impl Source for MemSource {
 
     ghost hasty = { λ s. s.hasty };
 
-    fn read<K: Sink>(&mut self, sink: &K, buf: &mut [u8]) -> Result<usize, Failed>
+    fn read(&mut self, sink: &K, buf: &mut [u8]) -> Result<usize, Failed>
         ensures bound { IfOk result (λ n. n ≤ length buf.new) }
         ensures moved { IfOk result (λ n. self.old.left ≡ take n buf.new ++ self.new.left) }
         ensures count { IfOk result (λ n. n ≡ min (min self.old.most (length buf.old)) (length self.old.left)) }

@@ -8,9 +8,9 @@ pub struct Failed;
 
 /// Where bytes are read from. Its count of faults never falls.
 ///
-/// Each read is shown the sink to which the answers go, so that a source can tell whether it was asked for more while one of them
-/// still waited there.
-pub trait Source {
+/// Each read is shown a sink of type `K`, so that a source can tell whether it was asked for more while bytes still waited there.
+/// What is generic over `K` and is handed one sink has no other to show.
+pub trait Source<K: Sink> {
     /// The bytes that are left, where the source tells them.
     ghost left: { Self → Option (List ℕ) };
 
@@ -27,7 +27,7 @@ pub trait Source {
     /// input, where the buffer isn't empty. What stands in the buffer behind them is left open.
     ///
     /// `Failed` comes only where the count of faults rose, and moves nothing.
-    fn read<K: Sink>(&mut self, sink: &K, buf: &mut [u8]) -> Result<usize, Failed>
+    fn read(&mut self, sink: &K, buf: &mut [u8]) -> Result<usize, Failed>
         ensures bound { IfOk result (λ n. n ≤ length buf.new) }
         ensures moved { IfOk result (λ n. Consumes (left self.old) (left self.new) (take n buf.new)) }
         ensures end { IfOk result (λ n. n ≡ 0 → 0 < length buf.old → IsAtEnd (left self.new)) }

@@ -1,6 +1,6 @@
 //! The check of journals: the verdict on an input, as text and status.
 
-ghost use Rattle.std.specs.Prelude.{◌≡◌, ◌≢◌, ◌++◌, OnOk, IfOk};
+ghost use Rattle.std.specs.Prelude.{◌≡◌, ◌≢◌, ◌++◌, false, OnOk, IfOk};
 ghost use Rattle.jarena.specs.Checks.{IsChecked, ends_text, verdict_status, verdict_text};
 ghost use Rattle.jarena.specs.Facts.{sink_facts, source_facts};
 
@@ -67,12 +67,13 @@ fn verdict_status(verdict: &Verdict) -> u8
 }
 
 /// Judges the lines of a source as journals, writes the verdict, and gives its status, or 5 where the sink failed.
-pub(crate) fn check_journals<S: Source, K: Sink>(alloc: Global, source: &mut S, sink: &mut K) -> u8
+pub(crate) fn check_journals<S: Source<K>, K: Sink>(alloc: Global, source: &mut S, sink: &mut K) -> u8
     ensures checked { IsChecked result (source_facts (S.left source.old) (S.ended source.old) (S.faults source.old)) (source_facts (S.left source.new) (S.ended source.new) (S.faults source.new))
         (sink_facts (K.held sink.old) (K.faults sink.old) (K.waits sink.old)) (sink_facts (K.held sink.new) (K.faults sink.new) (K.waits sink.new)) }
+    ensures patient { K.waits sink.old ≡ false → S.hasty source.new ≡ S.hasty source.old }
     ensures not_usage { result ≢ 2 }
 {
-    let verdict = check(alloc, source);
+    let verdict = check(alloc, source, sink);
     let Ok(text) = verdict_text(alloc, &verdict) else {
         return NO_MEMORY;
     };

@@ -1,6 +1,6 @@
 //! The top call: all that the program does, over a source, a sink and a shelf of hooks.
 
-ghost use Rattle.std.specs.Prelude.{◌≡◌, ◌⊎◌, ℕ, Bool, [], None, map, string_bytes};
+ghost use Rattle.std.specs.Prelude.{◌≡◌, ◌⊎◌, ℕ, Bool, [], None, false, map, string_bytes};
 ghost use Rattle.replay_run.specs.declared.replays.Closing.{Closing};
 ghost use Rattle.jarena.specs.Runs.{Checks, OnlyTellsUsage, Replays, RunsThreads, Soaks, run_facts, sink_facts, source_facts};
 ghost use Rattle.jarena.specs.Words.{IsCheck, IsInNoList, IsReplay, IsSoak, IsThreads};
@@ -92,7 +92,7 @@ fn untouched<H: ExtentHooks>(alloc: Global, status: u8, shelf: HookShelf<H>) -> 
 /// summary of the journals; with `--journal` the journals follow. Where they are exactly
 /// `check`, it judges the lines of the source as printed journals. Where they are in no list, it writes the usage line and gives
 /// status 2, or 5 where the sink failed, and does nothing else.
-pub fn run<R: Threads + Wait + Sync, S: Source, K: Sink, H: ExtentHooks + Send>(
+pub fn run<R: Threads + Wait + Sync, S: Source<K>, K: Sink, H: ExtentHooks + Send>(
     rt: &R,
     alloc: Global,
     words: &[String],
@@ -108,7 +108,7 @@ pub fn run<R: Threads + Wait + Sync, S: Source, K: Sink, H: ExtentHooks + Send>(
     ensures replay { (form : Closing) → IsReplay (map string_bytes words.now) form → Replays form (run_facts result.status result.shelf result.journals result.heard result.chunks) shelf
         (source_facts (S.left source.old) (S.ended source.old) (S.faults source.old)) (source_facts (S.left source.new) (S.ended source.new) (S.faults source.new))
         (sink_facts (K.held sink.old) (K.faults sink.old) (K.waits sink.old)) (sink_facts (K.held sink.new) (K.faults sink.new) (K.waits sink.new)) }
-    ensures patient { (form : Closing) → IsReplay (map string_bytes words.now) form → S.hasty source.new ≡ S.hasty source.old }
+    ensures patient { (K.waits sink.old ≡ false) ⊎ ((form : Closing) × IsReplay (map string_bytes words.now) form) → S.hasty source.new ≡ S.hasty source.old }
     ensures soak { (start : ℕ) (calls : ℕ) → IsSoak (map string_bytes words.now) start calls
         → Soaks start calls (run_facts result.status result.shelf result.journals result.heard result.chunks) shelf
         (sink_facts (K.held sink.old) (K.faults sink.old) (K.waits sink.old)) (sink_facts (K.held sink.new) (K.faults sink.new) (K.waits sink.new)) }

@@ -12,7 +12,7 @@ ghost use Rattle.journal_check.specs.declared.verdicts.Verdict.TheVariants.{Read
 use crate::logs::Log;
 use crate::meetings::first_meeting;
 use crate::verdicts::{Bad, Limits, Verdict};
-use edge_io::Source;
+use edge_io::{Sink, Source};
 use line_reader::{Found, Pending, Stop, find_line};
 use std::alloc::{AllocError as NoMemory, Global};
 
@@ -94,9 +94,10 @@ fn take_found(
 }
 
 /// Judges an input within limits.
-pub(crate) fn judge<S: Source>(
+pub(crate) fn judge<S: Source<K>, K: Sink>(
     alloc: Global,
     source: &mut S,
+    sink: &K,
     limits: Limits,
 ) -> Result<Verdict, Stop>
     requires { limits.lines < 2 ^ 63 }
@@ -105,17 +106,18 @@ pub(crate) fn judge<S: Source>(
     ensures cut { IfOk result (λ verdict. IfNotEntry verdict (λ line. IfSome (S.left source.old) (λ input. IsCut line (lines_of input) → S.ended source.new ≡ true))) }
     ensures stop { IfOk result (λ verdict. is_stop verdict ≡ false) }
     ensures cause { IfErr result (λ stop. HasStopCause stop (S.faults source.old) (S.faults source.new)) }
+    ensures patient { K.waits sink.now ≡ false → S.hasty source.new ≡ S.hasty source.old }
     ensures counts { S.faults source.old ≤ S.faults source.new }
 {
     let mut log = Log::new(alloc)?;
     let mut pending = Pending::new(alloc);
     for number in 1..limits.lines + 1 {
-        let found = find_line(source, &mut pending, limits.bytes)?;
+        let found = find_line(source, sink, &mut pending, limits.bytes)?;
         if let Some(verdict) = take_found(alloc, &mut log, &mut pending, found, number)? {
             return Ok(verdict);
         }
     }
-    match find_line(source, &mut pending, limits.bytes)? {
+    match find_line(source, sink, &mut pending, limits.bytes)? {
         Found::End => Ok(close(alloc, &log)?),
         _ => Ok(Verdict::Limit {
             line: limits.lines + 1,
@@ -128,8 +130,9 @@ pub(crate) fn judge<S: Source>(
 ///
 /// Lines that begin with `arena ` or `threads ` are passed over. Of the others the first one is told that is no entry's text,
 /// or whose entry may not stand where it comes; where none is so, whether the arenas that they leave own a chunk together.
-/// `ReadFault` comes only where a read failed, and `NoMemory` only where memory was wanting.
-pub fn check<S: Source>(alloc: Global, source: &mut S) -> Verdict
+/// Each read is shown the sink, to which nothing is written. `ReadFault` comes only where a read failed, and `NoMemory` only where
+/// memory was wanting.
+pub fn check<S: Source<K>, K: Sink>(alloc: Global, source: &mut S, sink: &K) -> Verdict
     ensures accepted { IfAccepted result (λ entries ends. IfSome (S.left source.old) (λ input. IsAccepted (judgement input) entries ends)) }
     ensures not_entry { IfNotEntry result (λ line. IfSome (S.left source.old) (λ input. judgement input ≡ BadLine line NotEntry)) }
     ensures cut { IfNotEntry result (λ line. IfSome (S.left source.old) (λ input. IsCut line (lines_of input) → S.ended source.new ≡ true)) }
@@ -138,9 +141,10 @@ pub fn check<S: Source>(alloc: Global, source: &mut S) -> Verdict
     ensures limit { IfLimit result (λ line bytes. IfSome (S.left source.old) (λ input. judgement input ≡ over_limit line bytes)) }
     ensures ended { is_whole result ≡ true → S.ended source.new ≡ true }
     ensures read_fault { result ≡ ReadFault → Rose (S.faults source.old) (S.faults source.new) }
+    ensures patient { K.waits sink.now ≡ false → S.hasty source.new ≡ S.hasty source.old }
     ensures counts { S.faults source.old ≤ S.faults source.new }
 {
-    match judge(alloc, source, INPUT_LIMITS) {
+    match judge(alloc, source, sink, INPUT_LIMITS) {
         Ok(verdict) => verdict,
         Err(Stop::ReadFault) => Verdict::ReadFault,
         Err(Stop::NoMemory) => Verdict::NoMemory,

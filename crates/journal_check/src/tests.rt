@@ -5,7 +5,7 @@ ghost use Rattle.std.specs.Prelude.{◌≤◌};
 use crate::check;
 use crate::checks::judge;
 use crate::verdicts::{End, Limits, Verdict};
-use edge_io::MemSource;
+use edge_io::{MemSource, Quiet};
 use line_reader::Stop;
 use std::alloc::Global;
 use std::test::Fail;
@@ -68,13 +68,13 @@ fn in_pieces(alloc: Global, input: &str, most: u64) -> Result<String, Fail>
     requires { 1 ≤ most }
 {
     let mut source = MemSource::pieces(input.as_bytes().to_vec(alloc)?, Vec::new(alloc), most);
-    text_of(alloc, &check(alloc, &mut source))
+    text_of(alloc, &check(alloc, &mut source, &Quiet::new()))
 }
 
 /// What an input comes to within small limits.
 fn in_small(alloc: Global, input: &str) -> Result<String, Fail> {
     let mut source = MemSource::new(input.as_bytes().to_vec(alloc)?, Vec::new(alloc));
-    match judge(alloc, &mut source, SMALL) {
+    match judge(alloc, &mut source, &Quiet::new(), SMALL) {
         Ok(verdict) => text_of(alloc, &verdict),
         Err(Stop::ReadFault) => text_of(alloc, &Verdict::ReadFault),
         Err(Stop::NoMemory) => text_of(alloc, &Verdict::NoMemory),
@@ -200,7 +200,7 @@ fn a_read_that_fails_is_told(rt: HostRuntime) -> Result<(), Fail> {
             [call].to_vec(alloc)?,
             16,
         );
-        let told = text_of(alloc, &check(alloc, &mut source))?;
+        let told = text_of(alloc, &check(alloc, &mut source, &Quiet::new()))?;
         let wanted = if call < 10 { "read fault" } else { ONE };
         assert_eq!(rt; told.as_str(), wanted);
     }

@@ -2,10 +2,11 @@
 
 use crate::runs::print_run;
 use crate::words::{BOXES, Wanted, tell_usage, wanted_by};
-use edge_io::{MemSink, MemSource};
+use edge_io::{MemSink, ReadEdge};
 use hook_api::{HookShelf, RisingHooks};
 use ruled_hooks::RuledHooks;
 use std::alloc::{AllocError as NoMemory, Global};
+use std::io::{self, ErrorKind, Read};
 use std::test::Fail;
 
 const TRACE: &str = "t0 malloc a 20000\n";
@@ -33,19 +34,38 @@ fn ruled(alloc: Global, wanted: &Wanted) -> Result<HookShelf<RuledHooks<RisingHo
     Ok(HookShelf::new(boxes))
 }
 
-/// What the program does by these words, where these reads and writes fail.
+/// A reader that may fail where the input has ended.
+#[derive(Drop)]
+struct Breaking<R> {
+    inner: R,
+    breaks: bool,
+}
+
+impl<R: Read> Read for Breaking<R> {
+    fn read(&mut self, buf: &mut [u8]) -> io::Result<usize> {
+        match self.inner.read(buf) {
+            Ok(0) if self.breaks => Err(io::Error::from(ErrorKind::Other)),
+            answer => answer,
+        }
+    }
+}
+
+/// What the program does by these words, where a read fails at the end of the input, if it breaks, and these writes fail.
 fn outcome_by(
     alloc: Global,
     words: &[&str],
     input: &str,
-    reads: &[u64],
+    breaks: bool,
     writes: &[u64],
 ) -> Result<Outcome, NoMemory> {
     let mut list = Vec::new(alloc);
     for word in words {
         list.push(String::from_str(alloc, word)?)?;
     }
-    let mut source = MemSource::new(input.as_bytes().to_vec(alloc)?, reads.to_vec(alloc)?);
+    let mut source = ReadEdge::new(Breaking {
+        inner: input.as_bytes(),
+        breaks,
+    });
     let mut sink = MemSink::new(alloc, writes.to_vec(alloc)?);
     let Some(wanted) = wanted_by(&list) else {
         return Ok((tell_usage(&mut sink), String::new(alloc)));
@@ -56,25 +76,25 @@ fn outcome_by(
     Ok((status, output))
 }
 
-/// Prints the journals of a trace, where these reads and writes fail.
-fn outcome(alloc: Global, input: &str, reads: &[u64], writes: &[u64]) -> Result<Outcome, NoMemory> {
-    outcome_by(alloc, &[], input, reads, writes)
+/// Prints the journals of a trace, where a read fails at its end, if it breaks, and these writes fail.
+fn outcome(alloc: Global, input: &str, breaks: bool, writes: &[u64]) -> Result<Outcome, NoMemory> {
+    outcome_by(alloc, &[], input, breaks, writes)
 }
 
 #[test]
 fn journals_are_printed_whatever_the_lines_came_to(rt: HostRuntime) -> Result<(), Fail> {
-    // The input, the reads that fail, and the status.
-    let rows: [(&str, &[u64], u8); 4] = [
-        (TRACE, &[], 0),
-        ("t0 malloc a 20000\nt0 mallo\n", &[], 3),
-        (TRACE, &[2], 4),
-        ("t0 malloc a 20000\nt32 flush\n", &[], 7),
+    // The input, whether a read fails at its end, and the status.
+    let rows: [(&str, bool, u8); 4] = [
+        (TRACE, false, 0),
+        ("t0 malloc a 20000\nt0 mallo\n", false, 3),
+        (TRACE, true, 4),
+        ("t0 malloc a 20000\nt32 flush\n", false, 7),
     ];
-    for (input, reads, wanted) in rows {
-        let (status, output) = outcome(rt.alloc(), input, reads, &[])?;
+    for (input, breaks, wanted) in rows {
+        let (status, output) = outcome(rt.alloc(), input, breaks, &[])?;
         assert_eq!(rt; (status, output.as_str()), (wanted, JOURNAL));
     }
-    let (status, output) = outcome(rt.alloc(), "", &[], &[])?;
+    let (status, output) = outcome(rt.alloc(), "", false, &[])?;
     assert_eq!(rt; (status, output.as_str()), (0, ""));
     Ok(())
 }
@@ -87,7 +107,7 @@ fn each_word_prints_what_it_says(rt: HostRuntime) -> Result<(), Fail> {
         (&["asks"], ASKS),
     ];
     for (words, wanted) in rows {
-        let (status, output) = outcome_by(rt.alloc(), words, TRACE, &[], &[])?;
+        let (status, output) = outcome_by(rt.alloc(), words, TRACE, false, &[])?;
         assert_eq!(rt; (status, output.as_str()), (0, wanted));
     }
     Ok(())
@@ -95,7 +115,7 @@ fn each_word_prints_what_it_says(rt: HostRuntime) -> Result<(), Fail> {
 
 #[test]
 fn a_failed_write_is_told(rt: HostRuntime) -> Result<(), Fail> {
-    let (status, output) = outcome(rt.alloc(), TRACE, &[], &[1])?;
+    let (status, output) = outcome(rt.alloc(), TRACE, false, &[1])?;
     assert_eq!(rt; (status, output.as_str()), (5, ""));
     Ok(())
 }
@@ -137,7 +157,7 @@ fn asks_are_printed_as_boxes_answer_by_their_rules(rt: HostRuntime) -> Result<()
         ),
     ];
     for (words, wanted) in rows {
-        let (status, output) = outcome_by(rt.alloc(), words, TRACE, &[], &[])?;
+        let (status, output) = outcome_by(rt.alloc(), words, TRACE, false, &[])?;
         assert_eq!(rt; (status, output.as_str().ends_with(wanted)), (0, true));
     }
     Ok(())
@@ -154,7 +174,7 @@ fn other_words_are_no_rules(rt: HostRuntime) -> Result<(), Fail> {
         &["asks", "0:pool:1:"],
     ];
     for words in rows {
-        let (status, output) = outcome_by(rt.alloc(), words, TRACE, &[], &[])?;
+        let (status, output) = outcome_by(rt.alloc(), words, TRACE, false, &[])?;
         assert_eq!(rt; (status, output.as_str()), (2, ""));
     }
     Ok(())

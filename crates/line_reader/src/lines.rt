@@ -1,10 +1,10 @@
 //! Lines from a source.
 
-ghost use Rattle.std.specs.Prelude.{◌≡◌, ◌++◌, ◌+◌, ◌<◌, ◌≤◌, List, [], drop, length, take, true, None, IfErr, IfOk, IfSome, OnErr, OnOk};
+ghost use Rattle.std.specs.Prelude.{◌≡◌, ◌++◌, ◌+◌, ◌<◌, ◌≤◌, List, [], drop, false, length, take, true, None, IfErr, IfOk, IfSome, OnErr, OnOk};
 ghost use Rattle.line_reader.specs.Lines.{HasNoNewline, HasStopCause, IsFirst, IsMore, MetEnd, SameUnread, is_whole_line};
 
 use crate::Stop;
-use edge_io::{Quiet, Source};
+use edge_io::{Sink, Source};
 use memchr::memchr;
 use std::alloc::{AllocError as NoMemory, Global};
 use std::marker::Model;
@@ -105,16 +105,20 @@ fn line_in(bytes: &[u8], seen: usize, most: u64) -> Option<Found>
     }
 }
 
-/// Reads the next bytes of the source behind the pending ones, and gives how many they are: 0 at the end of the input. The read is
-/// shown a sink to which nothing was written: no answer comes before all lines were read.
-fn read_more<S: Source>(source: &mut S, pending: &mut Pending) -> Result<usize, Stop>
+/// Reads the next bytes of the source behind the pending ones, and gives how many they are: 0 at the end of the input.
+fn read_more<S: Source<K>, K: Sink>(
+    source: &mut S,
+    sink: &K,
+    pending: &mut Pending,
+) -> Result<usize, Stop>
     ensures same { IfOk result (λ _. SameUnread pending.old (S.left source.old) pending.new (S.left source.new)) }
     ensures more { IfOk result (λ count. IsMore count pending.old pending.new (S.left source.new) (S.ended source.new)) }
     ensures cause { IfErr result (λ stop. HasStopCause stop (S.faults source.old) (S.faults source.new)) }
+    ensures patient { K.waits sink.now ≡ false → S.hasty source.new ≡ S.hasty source.old }
     ensures counts { S.faults source.old ≤ S.faults source.new }
 {
     let mut buf = [0u8; READ_BYTES];
-    let Ok(count) = source.read(&Quiet::new(), &mut buf) else {
+    let Ok(count) = source.read(sink, &mut buf) else {
         return Err(Stop::ReadFault);
     };
     pending.extend(&buf[..count])?;
@@ -122,12 +126,18 @@ fn read_more<S: Source>(source: &mut S, pending: &mut Pending) -> Result<usize, 
 }
 
 /// Finds what stands first among the bytes of an input: the pending ones and then those that the source has left, of which it
-/// reads as many as that takes.
-pub fn find_line<S: Source>(source: &mut S, pending: &mut Pending, most: u64) -> Result<Found, Stop>
+/// reads as many as that takes. Each read is shown the sink.
+pub fn find_line<S: Source<K>, K: Sink>(
+    source: &mut S,
+    sink: &K,
+    pending: &mut Pending,
+    most: u64,
+) -> Result<Found, Stop>
     ensures first { IfOk result (λ found. IsFirst most found pending.new) }
     ensures same { IfOk result (λ _. SameUnread pending.old (S.left source.old) pending.new (S.left source.new)) }
     ensures end { IfOk result (λ found. MetEnd found (S.left source.new) (S.ended source.new)) }
     ensures cause { IfErr result (λ stop. HasStopCause stop (S.faults source.old) (S.faults source.new)) }
+    ensures patient { K.waits sink.now ≡ false → S.hasty source.new ≡ S.hasty source.old }
     ensures counts { S.faults source.old ≤ S.faults source.new }
 {
     let mut seen = 0;
@@ -136,7 +146,7 @@ pub fn find_line<S: Source>(source: &mut S, pending: &mut Pending, most: u64) ->
             return Ok(found);
         }
         seen = pending.as_slice().len();
-        if read_more(source, pending)? == 0 {
+        if read_more(source, sink, pending)? == 0 {
             return Ok(if seen == 0 { Found::End } else { Found::Cut });
         }
     }

@@ -1,6 +1,6 @@
 //! The lines of a trace, all of which are read before any is carried out.
 
-ghost use Rattle.std.specs.Prelude.{◌≡◌, ◌≢◌, ◌≤◌, ◌++◌, [], Ok, Some, None, true, IfErr, IfOk, IfSome, OnOk};
+ghost use Rattle.std.specs.Prelude.{◌≡◌, ◌≢◌, ◌≤◌, ◌++◌, [], Ok, Some, None, false, true, IfErr, IfOk, IfSome, OnOk};
 ghost use Rattle.std.specs.List.{All};
 ghost use Rattle.edge_io.specs.Bytes.{Rose};
 ghost use Rattle.line_reader.specs.Lines.{lines_of};
@@ -9,7 +9,7 @@ ghost use Rattle.trace_text.specs.Grammar.{IsWithinLimits, line_of};
 ghost use Rattle.phase_run.specs.Reading.{BadLine, IfBad, IsBadIn, IsFaulty, IsNext, Moves, Whole, reading, unread_for};
 ghost use Rattle.phase_run.specs.declared.reading.Unread.TheVariants.{ReadFault};
 
-use edge_io::Source;
+use edge_io::{Sink, Source};
 use line_reader::{Found, Pending, Stop, find_line};
 use report_text::Cause;
 use std::alloc::{AllocError as NoMemory, Global};
@@ -91,9 +91,10 @@ fn read_text(alloc: Global, number: u64, text: &[u8]) -> Result<Line, Unread>
 }
 
 /// Reads the next line, which has this number; nothing, where the input has ended.
-fn next_line<S: Source>(
+fn next_line<S: Source<K>, K: Sink>(
     alloc: Global,
     source: &mut S,
+    sink: &K,
     pending: &mut Pending,
     number: u64,
 ) -> Result<Option<Line>, Unread>
@@ -104,9 +105,10 @@ fn next_line<S: Source>(
     ensures bad { IfErr result (λ unread. IfBad unread (λ line cause. IfSome (S.left source.old) (λ left. IsBadIn number (pending.old ++ left) line cause))) }
     ensures cut { IfErr result (λ unread. IfBad unread (λ line cause. cause ≡ Cut → S.ended source.new ≡ true)) }
     ensures fault { IfErr result (λ unread. unread ≡ ReadFault → Rose (S.faults source.old) (S.faults source.new)) }
+    ensures patient { K.waits sink.now ≡ false → S.hasty source.new ≡ S.hasty source.old }
     ensures counts { S.faults source.old ≤ S.faults source.new }
 {
-    let length = match find_line(source, pending, BYTE_LIMIT)? {
+    let length = match find_line(source, sink, pending, BYTE_LIMIT)? {
         Found::Line(length) => length,
         Found::TooLong => {
             return Err(Unread::Bad {
@@ -128,16 +130,21 @@ fn next_line<S: Source>(
 }
 
 /// Finds that the input ends behind as many lines as a trace may have.
-fn end_lines<S: Source>(source: &mut S, pending: &mut Pending) -> Result<(), Unread>
+fn end_lines<S: Source<K>, K: Sink>(
+    source: &mut S,
+    sink: &K,
+    pending: &mut Pending,
+) -> Result<(), Unread>
     ensures next { OnOk result (Moves pending.old (S.left source.old) pending.new (S.left source.new) (IsNext 1048577 None)) }
     ensures ended { OnOk result (S.ended source.new ≡ true) }
     ensures bad { IfErr result (λ unread. IfBad unread (λ line cause. IfSome (S.left source.old) (λ left. IsBadIn 1048577 (pending.old ++ left) line cause))) }
     ensures cut { IfErr result (λ unread. IfBad unread (λ line cause. cause ≢ Cut)) }
     ensures fault { IfErr result (λ unread. unread ≡ ReadFault → Rose (S.faults source.old) (S.faults source.new)) }
+    ensures patient { K.waits sink.now ≡ false → S.hasty source.new ≡ S.hasty source.old }
     ensures counts { S.faults source.old ≤ S.faults source.new }
 {
     // One byte is enough to tell, and no other is waited for.
-    match find_line(source, pending, 0)? {
+    match find_line(source, sink, pending, 0)? {
         Found::End => Ok(()),
         _ => Err(Unread::Bad {
             line: LINE_LIMIT + 1,
@@ -151,8 +158,13 @@ fn end_lines<S: Source>(source: &mut S, pending: &mut Pending) -> Result<(), Unr
 ///
 /// `Bad` is the first line that is bad by itself: it passes a limit, is cut, or says nothing. The list has those before it. A
 /// limit that the bytes read so far pass comes before a read that would fail. `ReadFault` comes only where a read failed, and
-/// `NoMemory` only where memory was wanting.
-pub fn read_lines<S: Source>(alloc: Global, source: &mut S, lines: &mut Lines) -> Result<(), Unread>
+/// `NoMemory` only where memory was wanting. Each read is shown the sink, to which nothing is written.
+pub fn read_lines<S: Source<K>, K: Sink>(
+    alloc: Global,
+    source: &mut S,
+    sink: &K,
+    lines: &mut Lines,
+) -> Result<(), Unread>
     requires { lines.old ≡ [] }
     ensures whole { OnOk result (IfSome (S.left source.old) (λ input. reading (lines_of input) ≡ Whole lines.new)) }
     ensures limits { All (λ line. IsWithinLimits line.line) lines.new }
@@ -160,14 +172,15 @@ pub fn read_lines<S: Source>(alloc: Global, source: &mut S, lines: &mut Lines) -
     ensures bad { IfErr result (λ unread. IfBad unread (λ line cause. IfSome (S.left source.old) (λ input. reading (lines_of input) ≡ BadLine lines.new line (Some cause)))) }
     ensures cut { IfErr result (λ unread. IfBad unread (λ line cause. cause ≡ Cut → S.ended source.new ≡ true)) }
     ensures fault { IfErr result (λ unread. unread ≡ ReadFault → Rose (S.faults source.old) (S.faults source.new)) }
+    ensures patient { K.waits sink.now ≡ false → S.hasty source.new ≡ S.hasty source.old }
     ensures counts { S.faults source.old ≤ S.faults source.new }
 {
     let mut pending = Pending::new(alloc);
     for number in 1..LINE_LIMIT + 1 {
-        let Some(line) = next_line(alloc, source, &mut pending, number)? else {
+        let Some(line) = next_line(alloc, source, sink, &mut pending, number)? else {
             return Ok(());
         };
         lines.push(NumberedLine { number, line })?;
     }
-    end_lines(source, &mut pending)
+    end_lines(source, sink, &mut pending)
 }

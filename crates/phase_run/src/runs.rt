@@ -1,5 +1,5 @@
 //! A trace whose clients are workers in threads.
-ghost use Rattle.std.specs.Prelude.{◌≡◌, ◌≤◌, ◌<◌, ℕ, List, [], None, Some, length, map, slice_index, IfOk, IfErr};
+ghost use Rattle.std.specs.Prelude.{◌≡◌, ◌≤◌, ◌<◌, ℕ, List, [], None, Some, false, length, map, slice_index, IfOk, IfErr};
 ghost use Rattle.std.specs.List.{All, AllByRecursion, sum_by};
 ghost use Rattle.heap_runs.specs.Deals.{IsNew};
 ghost use Rattle.heap_runs.specs.Heaps.{MayCall, shelf_id};
@@ -268,7 +268,7 @@ fn run_phases<R: Threads + Wait + Sync, K: Sink, H: ExtentHooks + Send>(
 /// The first bad line is answered by its number and its cause, and nothing is carried out: the status is 7 where it passes a
 /// limit, and else 3. After a read that failed the status is 4, after a write that failed 5, and 6 where memory was wanting for
 /// anything, a call among that. The journals are handed back where all lines were carried out and memory for the text was there.
-pub fn threads<R: Threads + Wait + Sync, S: Source, K: Sink, H: ExtentHooks + Send>(
+pub fn threads<R: Threads + Wait + Sync, S: Source<K>, K: Sink, H: ExtentHooks + Send>(
     rt: &R,
     alloc: Global,
     source: &mut S,
@@ -278,8 +278,9 @@ pub fn threads<R: Threads + Wait + Sync, S: Source, K: Sink, H: ExtentHooks + Se
 ) -> Threaded<H>
     ensures runs { Runs with_journals (S.left source.old) (S.ended source.new) (S.faults source.old) (S.faults source.new) shelf result.shelf (left_by result.status result.journals result.chunks)
         (held_by (K.held sink.old) (K.faults sink.old) (K.waits sink.old)) (held_by (K.held sink.new) (K.faults sink.new) (K.waits sink.new)) }
+    ensures patient { K.waits sink.old ≡ false → S.hasty source.new ≡ S.hasty source.old }
 {
-    match read_phases(alloc, source) {
+    match read_phases(alloc, source, sink) {
         Ok(phases) => run_phases(rt, alloc, sink, shelf, phases, with_journals),
         Err(unread) => without_journals(alloc, tell_unread(alloc, sink, unread), shelf),
     }

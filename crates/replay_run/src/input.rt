@@ -72,7 +72,7 @@ fn line_in(pending: &[u8]) -> Option<Found>
 
 /// Reads until the pending bytes begin with a line, or can't. What waits in the sink is handed on before each read.
 #[inline(never)]
-fn read_to_line<S: Source, K: Sink>(
+fn read_to_line<S: Source<K>, K: Sink>(
     source: &mut S,
     sink: &mut K,
     pending: &mut Pending,
@@ -106,7 +106,7 @@ fn read_to_line<S: Source, K: Sink>(
 }
 
 /// Finds the line with which the pending bytes begin, and reads on until they do, or can't. What waits in the sink is handed on before each read.
-pub fn find_line<S: Source, K: Sink>(
+pub fn find_line<S: Source<K>, K: Sink>(
     source: &mut S,
     sink: &mut K,
     pending: &mut Pending,
@@ -131,7 +131,7 @@ pub fn find_line<S: Source, K: Sink>(
 }
 
 /// Whether bytes are left, of the pending ones or of the source. What waits in the sink is handed on before it is read.
-pub fn has_more<S: Source, K: Sink>(
+pub fn has_more<S: Source<K>, K: Sink>(
     source: &mut S,
     sink: &mut K,
     pending: &Pending,

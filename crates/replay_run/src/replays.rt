@@ -95,7 +95,7 @@ fn unread(found: Found, pending: &Pending) -> Next
 }
 
 /// Looks for the next line, and carries it out.
-fn next_line<S: Source, K: Sink, H: ExtentHooks>(
+fn next_line<S: Source<K>, K: Sink, H: ExtentHooks>(
     alloc: Global,
     source: &mut S,
     sink: &mut K,
@@ -220,7 +220,7 @@ fn close<K: Sink>(alloc: Global, sink: &mut K, state: &State, closing: Closing) 
 }
 
 /// Carries out the lines of the source, and gives the status: 0, or that of the first bad line.
-fn run_lines<S: Source, K: Sink, H: ExtentHooks>(
+fn run_lines<S: Source<K>, K: Sink, H: ExtentHooks>(
     alloc: Global,
     source: &mut S,
     sink: &mut K,
@@ -340,7 +340,7 @@ pub fn leave<K: Sink, H: ExtentHooks>(
 /// read that failed the status is 4, after a write that failed 5, and 6 where memory was wanting. The journals and the asks are
 /// those up to there. Only where memory for the heap itself was wanting, and nothing was read, asked or printed, no journals
 /// are handed back.
-pub fn replay<S: Source, K: Sink, H: ExtentHooks>(
+pub fn replay<S: Source<K>, K: Sink, H: ExtentHooks>(
     alloc: Global,
     source: &mut S,
     sink: &mut K,

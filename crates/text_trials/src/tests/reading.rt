@@ -1,6 +1,6 @@
 //! All lines of a trace, read before anything is done.
 
-use edge_io::MemSource;
+use edge_io::{MemSource, Quiet};
 use phase_run::{Unread, read_lines, read_phases};
 use report_text::Cause;
 use space_model::Seq;
@@ -31,7 +31,7 @@ fn lines_have_their_numbers(rt: HostRuntime) {
     let text = "phase\n\nt0 malloc a 20000\n# a comment\njoin\n";
     let mut source = source(&rt, rt.alloc(), text, &[]);
     let mut lines = Seq::new(rt.alloc());
-    read_lines(rt.alloc(), &mut source, &mut lines).expect(&rt, "lines");
+    read_lines(rt.alloc(), &mut source, &Quiet::new(), &mut lines).expect(&rt, "lines");
     drop(source);
     let mut told = String::new(rt.alloc());
     write_lines(&rt, &mut told, lines.as_slice());
@@ -49,7 +49,7 @@ fn lines_have_their_numbers(rt: HostRuntime) {
 /// Checks why the lines of a text aren't read.
 fn is_unread(rt: &impl Abort, alloc: Global, text: &str, fail: &[u64], want: Unread) {
     let mut source = source(rt, alloc, text, fail);
-    let unread = read_phases(alloc, &mut source).err();
+    let unread = read_phases(alloc, &mut source, &Quiet::new()).err();
     drop(source);
     assert_eq!(rt; unread, Some(want), "in {text:?}");
 }
@@ -83,7 +83,7 @@ fn the_first_bad_line_is_told(rt: HostRuntime) {
 fn phases_are_read(rt: HostRuntime) {
     let text = "t0 create 1\nphase\nt0 flush\njoin\n";
     let mut source = source(&rt, rt.alloc(), text, &[]);
-    let phases = read_phases(rt.alloc(), &mut source).expect(&rt, "phases");
+    let phases = read_phases(rt.alloc(), &mut source, &Quiet::new()).expect(&rt, "phases");
     drop(source);
     assert_eq!(rt; (phases.parts.len(), phases.clients), (2, 1));
     drop(phases);

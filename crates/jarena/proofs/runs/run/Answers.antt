@@ -37,7 +37,7 @@ returns-in-Replay-clause-replay g c = λ form is.
     })
 
 pub returns-in-Replay-clause-patient : goal.returns-in-Replay-clause-patient
-returns-in-Replay-clause-patient g c = λ form is. c.replay.ensures.patient
+returns-in-Replay-clause-patient g c = λ why. c.replay.ensures.patient
 
 pub returns-in-Replay-clause-soak : goal.returns-in-Replay-clause-soak
 returns-in-Replay-clause-soak g c = λ start calls is. absurd (replay_no_soak _ c.in-Replay.closing start calls c.in-Replay.ensures is)
@@ -63,7 +63,7 @@ pub returns-in-Soak-clause-replay : goal.returns-in-Soak-clause-replay
 returns-in-Soak-clause-replay g c = λ form is. absurd (replay_no_soak _ form _ _ is c.in-Soak.ensures)
 
 pub returns-in-Soak-clause-patient : goal.returns-in-Soak-clause-patient
-returns-in-Soak-clause-patient g c = λ form is. refl
+returns-in-Soak-clause-patient g c = λ why. refl
 
 pub returns-in-Soak-clause-soak : goal.returns-in-Soak-clause-soak
 returns-in-Soak-clause-soak g c = λ start calls is.
@@ -103,7 +103,10 @@ pub returns-in-Threads-clause-replay : goal.returns-in-Threads-clause-replay
 returns-in-Threads-clause-replay g c = λ form is. absurd (threads_no_replay _ _ form c.in-Threads.ensures is)
 
 pub returns-in-Threads-clause-patient : goal.returns-in-Threads-clause-patient
-returns-in-Threads-clause-patient g c = λ form is. absurd (threads_no_replay _ _ form c.in-Threads.ensures is)
+returns-in-Threads-clause-patient g c = λ why. elim why [
+    | inl still ↦ c.threads-threaded.ensures.patient still
+    | inr form ↦ absurd (threads_no_replay _ _ form.0 c.in-Threads.ensures form.1)
+  ]
 
 pub returns-in-Threads-clause-soak : goal.returns-in-Threads-clause-soak
 returns-in-Threads-clause-soak g c = λ start calls is. absurd (threads_no_soak _ _ start calls c.in-Threads.ensures is)
@@ -136,7 +139,10 @@ pub returns-in-Check-clause-replay : goal.returns-in-Check-clause-replay
 returns-in-Check-clause-replay g c = λ form is. absurd (check_no_replay _ form c.in-Check.ensures is)
 
 pub returns-in-Check-clause-patient : goal.returns-in-Check-clause-patient
-returns-in-Check-clause-patient g c = λ form is. absurd (check_no_replay _ form c.in-Check.ensures is)
+returns-in-Check-clause-patient g c = λ why. elim why [
+    | inl still ↦ c.check_journals.ensures.patient still
+    | inr form ↦ absurd (check_no_replay _ form.0 c.in-Check.ensures form.1)
+  ]
 
 pub returns-in-Check-clause-soak : goal.returns-in-Check-clause-soak
 returns-in-Check-clause-soak g c = λ start calls is. absurd (check_no_soak _ start calls c.in-Check.ensures is)
@@ -166,7 +172,7 @@ pub returns-in-Nothing-clause-replay : goal.returns-in-Nothing-clause-replay
 returns-in-Nothing-clause-replay g c = λ form is. absurd (replay_in_list _ form is c.in-Nothing.ensures)
 
 pub returns-in-Nothing-clause-patient : goal.returns-in-Nothing-clause-patient
-returns-in-Nothing-clause-patient g c = λ form is. refl
+returns-in-Nothing-clause-patient g c = λ why. refl
 
 pub returns-in-Nothing-clause-soak : goal.returns-in-Nothing-clause-soak
 returns-in-Nothing-clause-soak g c = λ start calls is. absurd (soak_in_list _ start calls is c.in-Nothing.ensures)

@@ -1,4 +1,4 @@
-use Rattle.std.proofs.Common.{◌+◌, ◌-◌, ◌≤◌, length, take}
+use Rattle.std.proofs.Common.{◌≡◌, ◌+◌, ◌-◌, ◌≤◌, false, length, take}
 use Rattle.line_reader.specs.Lines.{HasNoNewline, SameUnread}
 use Rattle.line_reader.proofs.lines.find_line.Given as goal
 
@@ -8,6 +8,7 @@ invariant-loop-found g l = record {
   seen : l.seen ≤ length l.pending;
   none : HasNoNewline (take l.seen l.pending);
   same : SameUnread l.initial.pending (g.S.Source.left l.initial.source) l.pending (g.S.Source.left l.source);
+  patient : g.K.Sink.waits l.sink ≡ false → g.S.Source.hasty l.source ≡ g.S.Source.hasty l.initial.source;
   counts : g.S.Source.faults l.initial.source ≤ g.S.Source.faults l.source;
 }
 
