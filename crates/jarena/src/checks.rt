@@ -67,7 +67,11 @@ fn verdict_status(verdict: &Verdict) -> u8
 }
 
 /// Judges the lines of a source as journals, writes the verdict, and gives its status, or 5 where the sink failed.
-pub(crate) fn check_journals<S: Source<K>, K: Sink>(alloc: Global, source: &mut S, sink: &mut K) -> u8
+pub(crate) fn check_journals<S: Source<K>, K: Sink>(
+    alloc: Global,
+    source: &mut S,
+    sink: &mut K,
+) -> u8
     ensures checked { IsChecked result (source_facts (S.left source.old) (S.ended source.old) (S.faults source.old)) (source_facts (S.left source.new) (S.ended source.new) (S.faults source.new))
         (sink_facts (K.held sink.old) (K.faults sink.old) (K.waits sink.old)) (sink_facts (K.held sink.new) (K.faults sink.new) (K.waits sink.new)) }
     ensures patient { K.waits sink.old ≡ false → S.hasty source.new ≡ S.hasty source.old }

@@ -104,9 +104,9 @@ returns-in-Threads-clause-replay g c = λ form is. absurd (threads_no_replay _ _
 
 pub returns-in-Threads-clause-patient : goal.returns-in-Threads-clause-patient
 returns-in-Threads-clause-patient g c = λ why. elim why [
-    | inl still ↦ c.threads-threaded.ensures.patient still
-    | inr form ↦ absurd (threads_no_replay _ _ form.0 c.in-Threads.ensures form.1)
-  ]
+  | inl still ↦ c.threads-threaded.ensures.patient still
+  | inr form ↦ absurd (threads_no_replay _ _ form.0 c.in-Threads.ensures form.1)
+]
 
 pub returns-in-Threads-clause-soak : goal.returns-in-Threads-clause-soak
 returns-in-Threads-clause-soak g c = λ start calls is. absurd (threads_no_soak _ _ start calls c.in-Threads.ensures is)
@@ -140,9 +140,9 @@ returns-in-Check-clause-replay g c = λ form is. absurd (check_no_replay _ form 
 
 pub returns-in-Check-clause-patient : goal.returns-in-Check-clause-patient
 returns-in-Check-clause-patient g c = λ why. elim why [
-    | inl still ↦ c.check_journals.ensures.patient still
-    | inr form ↦ absurd (check_no_replay _ form.0 c.in-Check.ensures form.1)
-  ]
+  | inl still ↦ c.check_journals.ensures.patient still
+  | inr form ↦ absurd (check_no_replay _ form.0 c.in-Check.ensures form.1)
+]
 
 pub returns-in-Check-clause-soak : goal.returns-in-Check-clause-soak
 returns-in-Check-clause-soak g c = λ start calls is. absurd (check_no_soak _ start calls c.in-Check.ensures is)
