@@ -12,6 +12,3 @@ pub use rows::{
     Action, ArenaReading, ClassCount, ClassReading, OnPlain, OnWrite, ROW_COUNT, Reading, Row,
     row_of,
 };
-
-#[cfg(test)]
-mod tests;

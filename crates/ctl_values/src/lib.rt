@@ -10,6 +10,3 @@ mod writes;
 
 pub use plans::{Wish, plan};
 pub use steps::{CtlStep, Times, Upkeep};
-
-#[cfg(test)]
-mod tests;

@@ -9,6 +9,3 @@ mod values;
 pub use laws::counts_are_small;
 pub use reports::json;
 pub use snapshots::{Count, Snapshot, Whose};
-
-#[cfg(test)]
-mod tests;

@@ -3,7 +3,7 @@ use Rattle.std.proofs.Common.{◌≡◌, ◌∙◌, ℕ, ◌+◌, ◌<◌, ◌�
 use Rattle.std.proofs.lemmas.Bool.{cases_lt}
 use Rattle.std.proofs.lemmas.List.{get_or_default, get_or_past}
 use Rattle.arena_core.specs.Chunks.{HasNoChunkFrom, IsNextChunk}
-use Rattle.journal_check.specs.Apart.{AreApart, AreFirstTwo, AreLowest, HasOneOwner, IsApart, IsLowSoFar, IsNextOwned, last_chunk, owns, owns_at}
+use Rattle.journal_check.specs.Apart.{AreApart, AreFirstTwo, AreLowest, HasOneOwner, IsLowSoFar, IsNextOwned, last_chunk, owns, owns_at}
 use Rattle.journal_check.specs.Logs.{Logged, unlogged}
 
 -- nothing past the last arena owns a chunk

@@ -1,18 +1,39 @@
 //! A run that prints its report, its journals or its asks, over a source, a sink and a shelf of hooks.
 
-ghost use Rattle.journals.specs.Runs.{PrintsAsks, PrintsJournals, PrintsRun};
+ghost use Rattle.journals.specs.Runs.{PrintsAsks, PrintsJournals, PrintsRun, PrintsText, ReplaysQuietly};
 
 use crate::asks::heard_text;
 use crate::words::{Printed, SINK_FAILED};
 use edge_io::{Failed, Quiet, ReadEdge, Sink, Source, write_whole};
 use hook_api::{ExtentHooks, HookShelf};
 use journal::put_journals;
-use replay_run::{Closing, replay};
-use std::alloc::Global;
+use replay_run::{Closing, Replayed, replay};
+use std::alloc::{AllocError as NoMemory, Global};
 use std::io::Read;
 
 /// Memory was wanting.
 pub const NO_MEMORY: u8 = 6;
+
+/// Carries out the lines of a source over a new heap. The report goes nowhere.
+fn replay_quietly<S: Source<Quiet>, H: ExtentHooks>(
+    alloc: Global,
+    source: &mut S,
+    shelf: HookShelf<H>,
+) -> Replayed<H>
+    ensures { ReplaysQuietly result.status result.journals result.heard shelf (S.ended source.new) (S.left source.old) (S.left source.new) }
+{
+    replay(alloc, source, &mut Quiet::new(), shelf, Closing::Lines)
+}
+
+/// Writes the text of a run whose replay ended with a status, and gives that status, or 5 where the sink failed.
+fn print_text<K: Sink>(sink: &mut K, text: &[u8], status: u8) -> u8
+    ensures { PrintsText result status (K.held sink.old) (K.held sink.new) text.now }
+{
+    match write_whole(sink, text) {
+        Ok(()) => status,
+        Err(Failed) => SINK_FAILED,
+    }
+}
 
 /// Carries out the lines of a source, and writes the journals of the 32 arenas: by arena, entry by entry, a line each.
 fn print_journals<S: Source<Quiet>, K: Sink, H: ExtentHooks>(
@@ -23,14 +44,11 @@ fn print_journals<S: Source<Quiet>, K: Sink, H: ExtentHooks>(
 ) -> u8
     ensures prints { PrintsJournals result shelf (S.ended source.new) (S.left source.old) (S.left source.new) (K.held sink.old) (K.held sink.new) }
 {
-    let replayed = replay(alloc, source, &mut Quiet::new(), shelf, Closing::Lines);
+    let replayed = replay_quietly(alloc, source, shelf);
     let mut text = Vec::new(alloc);
-    let Ok(()) = put_journals(alloc, &mut text, replayed.journals.as_slice()) else {
-        return NO_MEMORY;
-    };
-    match write_whole(sink, &text) {
-        Ok(()) => replayed.status,
-        Err(Failed) => SINK_FAILED,
+    match put_journals(alloc, &mut text, replayed.journals.as_slice()) {
+        Ok(()) => print_text(sink, &text, replayed.status),
+        Err(NoMemory) => NO_MEMORY,
     }
 }
 
@@ -43,13 +61,10 @@ fn print_asks<S: Source<Quiet>, K: Sink, H: ExtentHooks>(
 ) -> u8
     ensures prints { PrintsAsks result shelf (S.ended source.new) (S.left source.old) (S.left source.new) (K.held sink.old) (K.held sink.new) }
 {
-    let replayed = replay(alloc, source, &mut Quiet::new(), shelf, Closing::Lines);
-    let Ok(text) = heard_text(alloc, &replayed.heard) else {
-        return NO_MEMORY;
-    };
-    match write_whole(sink, &text) {
-        Ok(()) => replayed.status,
-        Err(Failed) => SINK_FAILED,
+    let replayed = replay_quietly(alloc, source, shelf);
+    match heard_text(alloc, &replayed.heard) {
+        Ok(text) => print_text(sink, &text, replayed.status),
+        Err(NoMemory) => NO_MEMORY,
     }
 }
 

@@ -1,8 +1,11 @@
-//! What lines of a trace say, how a report says what came of them, and the texts of journals.
+//! What lines of a trace say and names of settings ask for, how a report says what came of them, and the texts of journals.
 
+mod ctl;
 mod journals;
 mod lines;
 mod phases;
 mod reading;
 mod reports;
+mod soaks;
+mod stats;
 mod workers;

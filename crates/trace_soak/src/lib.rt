@@ -7,7 +7,5 @@
 
 mod draws;
 mod source;
-#[cfg(test)]
-mod tests;
 
 pub use source::Lines;

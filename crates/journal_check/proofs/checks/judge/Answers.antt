@@ -1,4 +1,4 @@
-use Rattle.std.proofs.Common.{ap, arith, ◌∙◌}
+use Rattle.std.proofs.Common.{ap, arith, refl, ◌∙◌}
 use Rattle.journal_check.specs.Logs.{all_entries, opening_log}
 use Rattle.journal_check.proofs.Judging.{IsSame, carry_cut, carry_next, carry_read, carry_start, met_end}
 use Rattle.journal_check.proofs.Totals.{opening_entries}
@@ -8,6 +8,7 @@ pub loop-number-init : goal.loop-number-init
 loop-number-init g c = record {
   same = rw (c.in_ok-log.ensures, c.new-pending.ensures) (carry_start c.args.limits opening_log (g.S.Source.left c.args.source.now));
   few = omega (arith, ap all_entries c.in_ok-log.ensures ∙ opening_entries);
+  patient = λ still. refl;
   counts = omega arith;
 }
 
@@ -22,6 +23,7 @@ loop-number-preserved g c =
           so (told c.args.limits (omega arith) found.ensures.first) (λ part. (met_end found.found (left c.find_line.new.source) (g.S.Source.ended c.find_line.new.source) found.ensures.end part).0)
           (omega arith) (c.in_ok-verdict.ensures.next c.in_default.is c.args.limits found.ensures.first);
       few = c.in_ok-verdict.ensures.few;
+      patient = λ still. found.ensures.patient still ∙ here.invariant.patient still;
       counts = omega (arith, here.invariant.counts, found.ensures.counts);
     }
 

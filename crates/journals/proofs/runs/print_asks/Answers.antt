@@ -1,52 +1,30 @@
-use Rattle.std.proofs.Common.{ℕ, List, inl, inr, refl, ◌∙◌, subst}
-use Rattle.edge_io.specs.Bytes.{Appends, AppendsPrefix}
+use Rattle.std.proofs.Common.{inr, refl, ◌∙◌, subst}
 use Rattle.journals.specs.Asks.{asks_text}
+use Rattle.journals.specs.Runs.{PrintsText}
 use Rattle.journals.proofs.Nothing.{none_more}
 use Rattle.journals.proofs.runs.print_asks.Goals as goal
 
-pub returns-in_default : goal.returns-in_default
-returns-in_default g c =
-    let told = c.replay-replayed.ensures in record {
+pub returns-in-Ok : goal.returns-in-Ok
+returns-in-Ok g c =
+    let replayed = c.replay_quietly-replayed in record {
       prints = record {
-        replayed = c.replay-replayed.result.status;
-        made = told.replay.0;
-        handed = c.replay-replayed.result.journals;
-        heard = c.replay-replayed.result.heard;
-        shelf' = c.replay-replayed.result.shelf;
-        replay = told.replay.1;
-        hands_out = told.replay.2;
-        prints = inr (inr refl, none_more (g.K.Sink.held c.args.sink.now) (asks_text c.replay-replayed.result.heard));
-      };
-    }
-
-pub returns-in-Ok-write_whole : goal.returns-in-Ok-write_whole
-returns-in-Ok-write_whole g c =
-    let told = c.replay-replayed.ensures in
-    let text = c.deref.ensures.value ∙ c.in-Ok.ensures.text in record {
-      prints = record {
-        replayed = c.replay-replayed.result.status;
-        made = told.replay.0;
-        handed = c.replay-replayed.result.journals;
-        heard = c.replay-replayed.result.heard;
-        shelf' = c.replay-replayed.result.shelf;
-        replay = told.replay.1;
-        hands_out = told.replay.2;
-        prints = inl (refl, subst (λ (t : List ℕ). Appends (g.K.Sink.held c.args.sink.now) (g.K.Sink.held c.write_whole.new.sink) t) text c.in-Ok-write_whole.ensures.ok);
+        replayed = replayed.result.status;
+        handed = replayed.result.journals;
+        heard = replayed.result.heard;
+        replays = replayed.ensures;
+        prints = subst (PrintsText c.print_text.result replayed.result.status (g.K.Sink.held c.args.sink.now) (g.K.Sink.held c.print_text.new.sink))
+            (c.deref.ensures.value ∙ c.in-Ok.ensures.text) c.print_text.ensures;
       };
     }
 
 pub returns : goal.returns
 returns g c =
-    let told = c.replay-replayed.ensures in
-    let text = c.deref.ensures.value ∙ c.in-Ok.ensures.text in record {
+    let replayed = c.replay_quietly-replayed in record {
       prints = record {
-        replayed = c.replay-replayed.result.status;
-        made = told.replay.0;
-        handed = c.replay-replayed.result.journals;
-        heard = c.replay-replayed.result.heard;
-        shelf' = c.replay-replayed.result.shelf;
-        replay = told.replay.1;
-        hands_out = told.replay.2;
-        prints = inr (inl refl, subst (λ (t : List ℕ). AppendsPrefix (g.K.Sink.held c.args.sink.now) (g.K.Sink.held c.write_whole.new.sink) t) text c.in-Err.ensures.err);
+        replayed = replayed.result.status;
+        handed = replayed.result.journals;
+        heard = replayed.result.heard;
+        replays = replayed.ensures;
+        prints = inr (inr refl, none_more (g.K.Sink.held c.args.sink.now) (asks_text replayed.result.heard));
       };
     }

@@ -1,6 +1,6 @@
 use Rattle.std.proofs.Common.{arith}
 use Rattle.heap_stats.proofs.Small.{one_small}
-use Rattle.heap_stats.proofs.tests.counts.Goals as goal
+use Rattle.text_trials.proofs.tests.stats.counts.Goals as goal
 
 pub returns : goal.returns
 returns c = record {

@@ -4,7 +4,7 @@ ghost use Rattle.std.specs.Prelude.{◌≤◌, ◌^◌};
 ghost use Rattle.std.specs.List.{All};
 ghost use Rattle.heap_stats.specs.Stats.{AreSmall, AreSmallWhereLive};
 
-use crate::{Count, Snapshot, Whose, json};
+use heap_stats::{Count, Snapshot, Whose, json};
 use space_model::Counts;
 use std::alloc::Global;
 use std::test::Fail;

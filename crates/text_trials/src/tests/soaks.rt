@@ -1,7 +1,7 @@
 //! The lines that are drawn from 0, beside the same lines read from their texts, which were worked out apart.
 
-use crate::Lines;
 use std::test::Fail;
+use trace_soak::Lines;
 use trace_text::read;
 
 #[test]
