@@ -70,9 +70,11 @@ fn line_in(pending: &[u8]) -> Option<Found>
     }
 }
 
-/// Finds the line with which the pending bytes begin, and reads on until they do, or can't. What waits in the sink is handed on
-/// before each read.
-pub fn find_line<S: Source<K>, K: Sink>(
+/// Reads until the pending bytes begin with a line, or can't. What waits in the sink is handed on before each read.
+///
+/// It stands apart from `find_line`, since a call of it clears the buffer.
+#[inline(never)]
+fn read_to_line<S: Source<K>, K: Sink>(
     source: &mut S,
     sink: &mut K,
     pending: &mut Pending,
@@ -103,6 +105,31 @@ pub fn find_line<S: Source<K>, K: Sink>(
         }
     }
     Ok(Found::TooLong)
+}
+
+/// Finds the line with which the pending bytes begin, and reads on until they do, or can't. What waits in the sink is handed on before each read.
+pub fn find_line<S: Source<K>, K: Sink>(
+    source: &mut S,
+    sink: &mut K,
+    pending: &mut Pending,
+) -> Result<Found, Stop>
+    ensures bounds { IfOk result (λ found. InBounds found pending.new) }
+    ensures first { IfOk result (λ found. IsFirst found pending.new) }
+    ensures moved { IfOk result (λ _. TakesMore pending.old pending.new (S.left source.old) (S.left source.new)) }
+    ensures stopped { IfErr result (λ stop. TakesSome (stop ≡ ReadFault) pending.old (S.left source.old) (S.left source.new)) }
+    ensures end { IfOk result (λ found. MetEnd found (S.left source.new) (S.ended source.new)) }
+    ensures kept { Keeps (K.held sink.old) (K.held sink.new) }
+    ensures cause { IfErr result (λ stop. HasStopCause stop (S.faults source.old) (S.faults source.new) (K.faults sink.old) (K.faults sink.new)) }
+    ensures unfailed { OnOk result (S.faults source.new ≡ S.faults source.old) }
+    ensures sink_unfailed { OnOk result (K.faults sink.new ≡ K.faults sink.old) }
+    ensures patient { S.hasty source.new ≡ S.hasty source.old }
+    ensures counts { S.faults source.old ≤ S.faults source.new }
+    ensures sink_counts { K.faults sink.old ≤ K.faults sink.new }
+{
+    match line_in(pending.as_slice()) {
+        Some(found) => Ok(found),
+        None => read_to_line(source, sink, pending),
+    }
 }
 
 /// Whether bytes are left, of the pending ones or of the source. What waits in the sink is handed on before it is read.

@@ -1,6 +1,6 @@
 use Rattle.replay_run.proofs.Words.{◌++◌, take, Consumes-trans}
 use Rattle.replay_run.proofs.Endings.{takes_unread}
-use Rattle.replay_run.proofs.input.find_line.Goals as goal
+use Rattle.replay_run.proofs.input.read_to_line.Goals as goal
 
 pub returns-in_err-extend-in-Ok-clause-stopped : goal.returns-in_err-extend-in-Ok-clause-stopped
 returns-in_err-extend-in-Ok-clause-stopped g c =

@@ -1,5 +1,5 @@
 use Rattle.replay_run.proofs.Words.{◌≡◌, ◌≤◌, length, Keeps, TakesMore}
-use Rattle.replay_run.proofs.input.find_line.Given as goal
+use Rattle.replay_run.proofs.input.read_to_line.Given as goal
 
 -- the pending bytes are those from before and those that were taken, at least one in each turn, and nothing failed so far
 abbrev pub invariant-loop : goal.invariant-loop
