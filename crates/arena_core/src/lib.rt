@@ -42,6 +42,9 @@ use std::alloc::{AllocError as NoMemory, Global};
 use std::marker::Model;
 use steps::Body;
 
+/// How many operations that take no memory may follow one that makes room for them.
+pub const UNIT: u64 = 16;
+
 /// An arena: the only thing that moves its space.
 ///
 /// Contracts see the space, and beside it the room of each of the 32 clients: how many more operations the client may

@@ -9,12 +9,9 @@ ghost use Rattle.arena_core.specs.Slabs.{CanFollow, IsBooked, slabs_begun, slabs
 
 use crate::indexes::{self, Indexes};
 use crate::rooms::Rooms;
-use crate::{ends, fills, frees, holders, moves, offers, purges, resizes, settings};
+use crate::{UNIT, ends, fills, frees, holders, moves, offers, purges, resizes, settings};
 use space_model::{Addresses, Op, Reply};
 use std::alloc::AllocError as NoMemory;
-
-/// How many operations that take no memory may follow one that makes room for them.
-const UNIT: u64 = 16;
 
 /// How many places are made beside those that are wanted, for the operations to come.
 const MORE: u64 = 64;

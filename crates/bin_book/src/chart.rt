@@ -4,7 +4,7 @@ ghost use Rattle.std.specs.FinMap as map_of;
 ghost use Rattle.bin_book.specs.Charts.{Grows, HasPage, first_at};
 
 use ordered_set::Key;
-use page_map::{CHUNKS, PAGES, PageMap};
+use page_map::{LEAVES, PAGES, PageMap};
 use std::alloc::{AllocError as NoMemory, Global};
 
 // Leaves are kept for so many slabs at least.
@@ -34,10 +34,10 @@ impl Chart {
     pub fn reserve(&mut self, slabs: u64, slots: usize) -> Result<(), NoMemory>
         ensures grows { Grows self.old self.new }
         ensures places { OnOk result (slots ≤ vec_len self.new.firsts) }
-        ensures leaves { OnOk result (min CHUNKS (2 * max slabs LEAST + 1) ≤ self.new.pages.spare) }
+        ensures leaves { OnOk result (min LEAVES (2 * max slabs LEAST + 1) ≤ self.new.pages.spare) }
     {
         let leaves = slabs.max(LEAST).saturating_mul(2).saturating_add(1);
-        self.pages.reserve(CHUNKS.min(leaves))?;
+        self.pages.reserve(LEAVES.min(leaves))?;
         self.firsts
             .reserve(slots.saturating_sub(self.firsts.len()))?;
         for _ in self.firsts.len()..slots {

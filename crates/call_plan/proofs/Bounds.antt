@@ -1,7 +1,7 @@
 -- What each step of a call keeps is so after all of them: so each step leaves fewer asks, but for those that its reply brings,
 -- and a malloc fewer turns too.
 use Rattle.call_plan.specs.Words.{Region}
-use Rattle.call_plan.proofs.Words.{not, Option, None, Some, Held, Request, Answered, BatchFacts, Then, Moving, Widening, Narrowing, Cutting, Extending, Sparing, Backing, Joining, Move, hit, get, share, gives, batch_goes, desk_moved, desk_led, desk_closed, move_stage, ◌≡◌, ℕ, ◌+◌, ◌-◌, ◌≤◌, Bool, true, false, cond, List, [], ◌∷◌, ◌++◌, sym, subst, arith, append_assoc, append-nil, sum_by, count_by, refl, ap, nat_tests, sum_by_push, Item, Finished, Ok, NoSuchArena, TurnPoint, Filling, Looking, Landing, Giving, Finding, Offering, Point, Turns, Asks, Tells, Next, Go, Over, More, Gone, Ends, Nowhere, Stage, DeskFacts, AskPoint, Skipping, Trimming, Growing, Paring, Needing, Granting, Committing, Merging, Easing, Returning, Decommitting, Forcing, Moment, after, run, settle, step_next, desk_fed, unheard, is_told, is_turn, brings}
+use Rattle.call_plan.proofs.Words.{not, Option, None, Some, Held, Request, Answered, BatchFacts, AfterFlight, Moving, Widening, Narrowing, Cutting, Extending, Sparing, Backing, Joining, Move, hit, get, share, gives, batch_goes, desk_moved, desk_led, desk_closed, move_stage, ◌≡◌, ℕ, ◌+◌, ◌-◌, ◌≤◌, Bool, true, false, cond, List, [], ◌∷◌, ◌++◌, sym, subst, arith, append_assoc, append-nil, sum_by, count_by, refl, ap, nat_tests, sum_by_push, Item, Finished, Ok, NoSuchArena, TurnPoint, Filling, Looking, Landing, Giving, Finding, Offering, Point, Turns, Asks, Tells, Next, Go, InArena, NextBatch, NotLive, Ends, Nowhere, Stage, DeskFacts, AskPoint, Skipping, Trimming, Growing, SplittingGrown, GrowingExactly, SplittingExact, Committing, Merging, PurgingLazily, Returning, Decommitting, Forcing, Moment, after, run, settle, step_next, desk_fed, unheard, is_told, is_turn, brings}
 
 -- a choice of where to begin
 pub chosen_stage : (P : Next → Type 0) (v : Bool) (x y : Stage) → P x.next → P y.next → P (cond v x y).next
@@ -11,16 +11,16 @@ chosen_stage P false x y one other = other
 -- What is so where a step leads, by what the client has there, is so where the call then stands, by what it has then: at a point, at
 -- the next batch, at its end, or where another region takes the place of the one in hand.
 pub record Settles (request : Request) (P : DeskFacts → Next → Type 0) : Type 0 where
-  pub over : (desk : DeskFacts) (index : ℕ) (point : Point) → P desk (Over index point) → P desk (Go point)
-  pub gone : (desk : DeskFacts) (arena : ℕ) → P desk Gone → P desk (Ends (NoSuchArena arena))
-  pub batch : (desk : DeskFacts) (addrs : List ℕ) → P desk More → P desk (Go (Turns (Giving addrs)))
-  pub done : (desk : DeskFacts) → gives request desk ≡ None → P desk More → P desk (Ends (Ok Finished))
-  pub given : (desk : DeskFacts) (region : Held) → gives request desk ≡ Some region → P desk More → P desk (Ends (Ok (Region region.addr region.class)))
-  pub cached : (desk : DeskFacts) (class : ℕ) (region : Held) → hit class desk ≡ Some region → P desk (Move class) → P (desk_moved class (Some region) desk) More
+  pub over : (desk : DeskFacts) (index : ℕ) (point : Point) → P desk (InArena index point) → P desk (Go point)
+  pub gone : (desk : DeskFacts) (arena : ℕ) → P desk NotLive → P desk (Ends (NoSuchArena arena))
+  pub batch : (desk : DeskFacts) (addrs : List ℕ) → P desk NextBatch → P desk (Go (Turns (Giving addrs)))
+  pub done : (desk : DeskFacts) → gives request desk ≡ None → P desk NextBatch → P desk (Ends (Ok Finished))
+  pub given : (desk : DeskFacts) (region : Held) → gives request desk ≡ Some region → P desk NextBatch → P desk (Ends (Ok (Region region.addr region.class)))
+  pub cached : (desk : DeskFacts) (class : ℕ) (region : Held) → hit class desk ≡ Some region → P desk (Move class) → P (desk_moved class (Some region) desk) NextBatch
   pub other : (desk : DeskFacts) (class : ℕ) → P desk (Move class) → P desk (get true class 1 (share class desk))
 
 batch_keeps : (request : Request) (P : DeskFacts → Next → Type 0) → Settles request P → (desk : DeskFacts) (arena : ℕ) (gained : Option Held) (batch : Option BatchFacts) →
-    gives request desk ≡ gained → P desk More → P desk (batch_goes arena gained batch).next
+    gives request desk ≡ gained → P desk NextBatch → P desk (batch_goes arena gained batch).next
 batch_keeps request P s desk arena None None e is = s.done desk e is
 batch_keeps request P s desk arena (Some region) None e is = s.given desk region e is
 batch_keeps request P s desk arena gained (Some batch) e is = s.batch desk batch.addrs is
@@ -34,10 +34,10 @@ move_keeps request P s desk arena class (Some region) e is =
 pub settle_keeps : (request : Request) (P : DeskFacts → Next → Type 0) → Settles request P → (desk : DeskFacts) (arena : ℕ) (next : Next) → P desk next →
     P (desk_led desk next) (settle request desk arena next).next
 settle_keeps request P s desk arena (Go point) is = is
-settle_keeps request P s desk arena (Over index point) is = s.over desk index point is
-settle_keeps request P s desk arena More is = batch_keeps request P s desk arena _ _ refl is
+settle_keeps request P s desk arena (InArena index point) is = s.over desk index point is
+settle_keeps request P s desk arena NextBatch is = batch_keeps request P s desk arena _ _ refl is
 settle_keeps request P s desk arena (Move class) is = move_keeps request P s desk arena class (hit class desk) refl is
-settle_keeps request P s desk arena Gone is = s.gone desk arena is
+settle_keeps request P s desk arena NotLive is = s.gone desk arena is
 settle_keeps request P s desk arena (Ends answer) is = is
 settle_keeps request P s desk arena Nowhere is = is
 
@@ -48,10 +48,10 @@ Closes P = (desk now : DeskFacts) (answer : Answered) → P desk (Ends answer) �
 pub close_keeps : (P : DeskFacts → Next → Type 0) → Closes P → (request : Request) (desk : DeskFacts) (arena : ℕ) (next : Next) → P desk next → P (desk_closed request arena next desk) next
 close_keeps P closes request desk arena (Ends answer) is = closes desk (desk_closed request arena (Ends answer) desk) answer is
 close_keeps P closes request desk arena (Go point) is = is
-close_keeps P closes request desk arena (Over index point) is = is
-close_keeps P closes request desk arena More is = is
+close_keeps P closes request desk arena (InArena index point) is = is
+close_keeps P closes request desk arena NextBatch is = is
 close_keeps P closes request desk arena (Move class) is = is
-close_keeps P closes request desk arena Gone is = is
+close_keeps P closes request desk arena NotLive is = is
 close_keeps P closes request desk arena Nowhere is = is
 
 -- what each step keeps of the items so far, where C is so of each item that is still to come
@@ -74,7 +74,7 @@ run_keeps C F split request P settles steps (item ∷ items) past at same all is
 -- ---- asks and turns
 
 -- the asks that can come of what follows
-abbrev pub credit_then : Then → ℕ
+abbrev pub credit_then : AfterFlight → ℕ
 credit_then (Moving class) = 5
 credit_then later = 0
 
@@ -92,12 +92,12 @@ abbrev pub credit_ask : AskPoint → ℕ
 credit_ask (Skipping wish span b skip) = 4
 credit_ask (Trimming wish span b) = 3
 credit_ask (Growing wish chunks) = 4
-credit_ask (Paring wish span b) = 3
-credit_ask (Needing wish) = 2
-credit_ask (Granting wish span b) = 1
+credit_ask (SplittingGrown wish span b) = 3
+credit_ask (GrowingExactly wish) = 2
+credit_ask (SplittingExact wish span b) = 1
 credit_ask (Committing wish span) = 0
 credit_ask (Merging low high own_low fresh later) = cond own_low 1 0 + credit_then later
-credit_ask (Easing span later) = 5 + credit_then later
+credit_ask (PurgingLazily span later) = 5 + credit_then later
 credit_ask (Returning span later) = 4 + credit_then later
 credit_ask (Decommitting span later) = 3 + credit_then later
 credit_ask (Forcing span later) = 2 + credit_then later
@@ -115,7 +115,7 @@ credit (Tells span b) = 1
 -- there is room for the asks that were made and those that can still come
 abbrev pub Left : ℕ → ℕ → Next → Type 0
 Left asks most (Go point) = asks + credit point ≤ most
-Left asks most (Over index point) = asks + credit point ≤ most
+Left asks most (InArena index point) = asks + credit point ≤ most
 Left asks most (Move class) = asks + 5 ≤ most
 Left asks most Nowhere = Unit {0}
 Left asks most next = asks ≤ most
@@ -161,9 +161,9 @@ abbrev pub is_got : AskPoint → Bool
 is_got (Skipping wish span b skip) = not wish.moves
 is_got (Trimming wish span b) = not wish.moves
 is_got (Growing wish chunks) = not wish.moves
-is_got (Paring wish span b) = not wish.moves
-is_got (Needing wish) = not wish.moves
-is_got (Granting wish span b) = not wish.moves
+is_got (SplittingGrown wish span b) = not wish.moves
+is_got (GrowingExactly wish) = not wish.moves
+is_got (SplittingExact wish span b) = not wish.moves
 is_got (Committing wish span) = not wish.moves
 is_got point = false
 
@@ -178,8 +178,8 @@ turns_at point = 9
 -- there is room for the asks and the turns of a malloc
 abbrev pub Short : ℕ → ℕ → Next → Type 0
 Short asks turns (Go point) = (asks + credit point ≤ 5) × (turns + turns_at point ≤ 8)
-Short asks turns (Over index point) = ⊥
-Short asks turns More = ⊥
+Short asks turns (InArena index point) = ⊥
+Short asks turns NextBatch = ⊥
 Short asks turns (Move class) = ⊥
 Short asks turns Nowhere = Unit {0}
 Short asks turns next = (asks ≤ 5) × (turns ≤ 8)

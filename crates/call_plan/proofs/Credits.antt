@@ -1,5 +1,5 @@
 -- Where a request begins there is room for its asks and turns. And what a call asks for fits into a number.
-use Rattle.call_plan.proofs.Words.{Realloc, Over, More, Move, Gone, Nowhere, get, share, gives, move_stage, begin_resize, begin_realloc, ◌≡◌, ◌≤◌, ◌<◌, ℕ, cond, Option, List, [], arith, subst, nat_tests, class_for_exists, pages_bounds, Request, Malloc, Memalign, Item, Answered, BatchFacts, hit, Next, Go, Ends, Stage, Held, DeskFacts, Moment, batch_goes, begin, begin_get, begin_stage, run, settle, step_next, IsSizedPoint, IsSizedNext, Goes, IsPointOrEnd, IsCall, is_malloc, most_asks, AsksAreFew, IsShort, MallocsAreShort, true, None, Some, nat_lt, ◌==◌, ◌^◌, cond_both, Turns, are_large, resize_at, class_for, resizing}
+use Rattle.call_plan.proofs.Words.{Realloc, InArena, NextBatch, Move, NotLive, Nowhere, get, share, gives, move_stage, begin_resize, begin_realloc, ◌≡◌, ◌≤◌, ◌<◌, ℕ, cond, Option, List, [], arith, subst, nat_tests, class_for_exists, pages_bounds, Request, Malloc, Memalign, Item, Answered, BatchFacts, hit, Next, Go, Ends, Stage, Held, DeskFacts, Moment, batch_goes, begin, begin_get, begin_stage, run, settle, step_next, IsSizedPoint, IsSizedNext, Goes, IsPointOrEnd, IsCall, is_malloc, most_asks, AsksAreFew, IsShort, MallocsAreShort, true, None, Some, nat_lt, ◌==◌, ◌^◌, cond_both, Turns, are_large, resize_at, class_for, resizing}
 use Rattle.call_plan.specs.Desks.{meant, ready}
 use Rattle.call_plan.specs.Words.{MallocIn}
 use Rattle.call_plan.proofs.Swaps.{meant_alike}
@@ -105,9 +105,9 @@ move_place request arena class found desk = grind (arith, batch_place)
 -- a step that goes leads to a point or to the end
 pub settle_place : (request : Request) (desk : DeskFacts) (arena : ℕ) (next : Next) → Goes (settle request desk arena next).next → IsPointOrEnd (settle request desk arena next).next
 settle_place request desk arena (Go point) goes = tt
-settle_place request desk arena (Over index point) goes = tt
-settle_place request desk arena More goes = batch_place arena (gives request desk) _
+settle_place request desk arena (InArena index point) goes = tt
+settle_place request desk arena NextBatch goes = batch_place arena (gives request desk) _
 settle_place request desk arena (Move class) goes = move_place request arena class (hit class desk) desk
-settle_place request desk arena Gone goes = tt
+settle_place request desk arena NotLive goes = tt
 settle_place request desk arena (Ends answer) goes = tt
 settle_place request desk arena Nowhere goes = absurd goes

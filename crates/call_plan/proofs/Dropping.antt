@@ -1,5 +1,5 @@
 -- What the turns of a call leave that purges extents: what it knows where it goes on.
-use Rattle.call_plan.proofs.Words.{inr, IsTrue, is_some, ◌≡◌, ℕ, ◌+◌, ◌-◌, ◌*◌, ◌<◌, ◌≤◌, ◌==◌, ◌&&◌, Bool, true, false, not, cond, [], ◌∷◌, ◌++◌, Option, None, Some, refl, sym, ◌∙◌, ap, subst, arith, All, filter, find, length, option_or, nat_tests, All-filter, All-head, filter-append, length-append, find-append, Offered, Dirty, Flight, IsPlaced, meets, exchanged, begins_at, is_flight, is_flight_at, is_listed, is_backed, rest_of, listed, taken_out, stays, is_lazy, next_flight, after_lazy, offer_at, offer_of, without_offer, is_offer, is_regranted, after_offer, after_decommit, after_purge_take, purge_at, count_listed, is_purgeable, find_passes, find_has, filter_nothing, none_counted, or_false, belongs, both_true, itself, Visit, Then, Visiting, Taking, Offering, Easing, Returning, Decommitting, Forcing, Dalloc, Decommit, PurgeLazy, Answer, Placed, Done, Refuses, Noted, Kept, Abandoned, Rest, ToDirty, ToMuzzy, ToRetained, Space, Part, Span, Sound, mine, same_span, AnswersTo, decommitted, eased, forced, put_purged, returned, takes_left, turn_replied, Idle, Flies, Droppable, HasOffered, IsThen, IsCalm, IsVisit, HasLeft, in_flight, Keeps, stages_then, stages_later, left, left_then, left_visit, stages_visit, left_turn, left_ask, flights_of}
+use Rattle.call_plan.proofs.Words.{inr, IsTrue, is_some, ◌≡◌, ℕ, ◌+◌, ◌-◌, ◌*◌, ◌<◌, ◌≤◌, ◌==◌, ◌&&◌, Bool, true, false, not, cond, [], ◌∷◌, ◌++◌, Option, None, Some, refl, sym, ◌∙◌, ap, subst, arith, All, filter, find, length, option_or, nat_tests, All-filter, All-head, filter-append, length-append, find-append, Offered, Dirty, Flight, IsPlaced, meets, exchanged, begins_at, is_flight, is_flight_at, is_listed, is_backed, rest_of, listed, taken_out, stays, is_lazy, next_flight, after_lazy, offer_at, offer_of, without_offer, is_offer, is_regranted, after_offer, after_decommit, after_purge_take, purge_at, count_listed, is_purgeable, find_passes, find_has, filter_nothing, none_counted, or_false, belongs, both_true, itself, Visit, AfterFlight, Visiting, Taking, Offering, PurgingLazily, Returning, Decommitting, Forcing, Dalloc, Decommit, PurgeLazy, Answer, Placed, Done, Refuses, Noted, Kept, Abandoned, Rest, ToDirty, ToMuzzy, ToRetained, Space, Part, Span, Sound, mine, same_span, AnswersTo, decommitted, eased, forced, put_purged, returned, takes_left, turn_replied, Idle, Flies, Droppable, HasOffered, IsThen, IsCalm, IsVisit, HasLeft, in_flight, Keeps, stages_then, stages_later, left, left_then, left_visit, stages_visit, left_turn, left_ask, flights_of}
 use Rattle.call_plan.proofs.Lists.{find-none, filter-fewer, filter-swap, find-gone, filter-removed, passes_alone}
 use Rattle.call_plan.proofs.Own.{flights_exchanged}
 use Rattle.call_plan.proofs.Putting.{Room, fewer_room, found_at, begins_as, gone_flights, next_goes, drop_goes, visited_goes, listed_dirty}
@@ -8,13 +8,13 @@ use Rattle.call_plan.proofs.Getting.{Onto, span_itself, begins_itself, replaced_
 -- ---- an extent in flight that changes
 
 -- an extent that was purged is put down
-purged_goes : (c : ℕ) (t : Space) (span : Span) (later : Then) (bound : ℕ) (p : Part) → IsCalm (mine c t) → IsThen later → in_flight span (mine c t).flights ≡ Some p →
+purged_goes : (c : ℕ) (t : Space) (span : Span) (later : AfterFlight) (bound : ℕ) (p : Part) → IsCalm (mine c t) → IsThen later → in_flight span (mine c t).flights ≡ Some p →
     is_listed (rest_of p.state) Dirty ≡ false → 30 * (flights_of c t - 1) + 7 + left_then later < bound → Keeps c t (stages_then later) bound (put_purged span later)
 purged_goes c t span later bound p offers is found settled fewer =
     ((omega arith, record { part = p; found = found; is = settled; calm = offers }, is), inr (refl, omega arith))
 
 -- an extent that takes the place of one in flight, and belongs to the dirty ones no more, is put down
-changed_goes : (c : ℕ) (s : Space) (span : Span) (later : Then) (bound : ℕ) (p piece : Part) → IsCalm (mine c s) → IsThen later → in_flight span (mine c s).flights ≡ Some p →
+changed_goes : (c : ℕ) (s : Space) (span : Span) (later : AfterFlight) (bound : ℕ) (p piece : Part) → IsCalm (mine c s) → IsThen later → in_flight span (mine c s).flights ≡ Some p →
     p.span ≡ span → piece.span ≡ p.span → is_flight c piece.state ≡ true → is_listed (rest_of piece.state) Dirty ≡ false → 30 * (flights_of c s - 1) + 7 + left_then later < bound →
     Keeps c (record s { parts = exchanged (begins_at p.span.first) s.parts (piece ∷ []) }) (stages_then later) bound (put_purged span later)
 changed_goes c s span later bound p piece offers is found spans same own settled fewer =
@@ -34,9 +34,9 @@ changed_goes c s span later bound p piece offers is found spans same own settled
 
 -- ---- the lazy purge
 
-pub lazy_onto : (c : ℕ) (s : Space) (span : Span) (later : Then) (answer : Answer) → Sound s → (flies : Flies (mine c s) span (λ p. rest_of p.state ≡ ToDirty)) → IsThen later →
+pub lazy_onto : (c : ℕ) (s : Space) (span : Span) (later : AfterFlight) (answer : Answer) → Sound s → (flies : Flies (mine c s) span (λ p. rest_of p.state ≡ ToDirty)) → IsThen later →
     AnswersTo (PurgeLazy span) answer →
-    Onto c (eased span later) (stages_then later) (left_ask (flights_of c s) (Easing span later)) (after_lazy s c (PurgeLazy span) answer)
+    Onto c (eased span later) (stages_then later) (left_ask (flights_of c s) (PurgingLazily span later)) (after_lazy s c (PurgeLazy span) answer)
 lazy_onto c s span later Done sound flies is kind =
     let p : Part = flies.part in
     let at = found_at c s span p sound flies.found in
@@ -47,7 +47,7 @@ lazy_onto c s span later (Placed b zeroed first) sound flies is kind = absurd (k
 
 -- ---- the offer and the dalloc
 
-pub offer_onto : (c : ℕ) (s : Space) (span : Span) (later : Then) → Sound s → (flies : Flies (mine c s) span Droppable) → IsThen later →
+pub offer_onto : (c : ℕ) (s : Space) (span : Span) (later : AfterFlight) → Sound s → (flies : Flies (mine c s) span Droppable) → IsThen later →
     Onto c (turn_replied (Offering span later)) (stages_then later) (left_turn (flights_of c s) 0 (Offering span later)) (offer_at s c (Some flies.part))
 offer_onto c s span later sound flies is =
     let p : Part = flies.part in
@@ -81,7 +81,7 @@ offer_some c s span sound has =
 same_meets : (span : Span) → 0 < span.pages → (q : Part) → same_span q.span span ≡ true → meets q.span span ≡ true
 same_meets span some q h = grind (arith, nat_tests)
 
-kept_goes : (c : ℕ) (s : Space) (span : Span) (later : Then) (found : Option ℕ) (v : Bool) → IsCalm (mine c s) → IsThen later → 0 < span.pages →
+kept_goes : (c : ℕ) (s : Space) (span : Span) (later : AfterFlight) (found : Option ℕ) (v : Bool) → IsCalm (mine c s) → IsThen later → 0 < span.pages →
     is_regranted found span s.parts ≡ v →
     Onto c (returned span later) (stages_then later) (30 * flights_of c s + 12 + left_then later)
     (cond v (stays s (Abandoned (next_flight c s.parts)))
@@ -102,7 +102,7 @@ kept_goes c s span later found false offers is some e =
     let count : flights_of c t ≡ flights_of c s + 1 = ap length flights ∙ length-append (mine c s).flights (piece ∷ []) in
     (((record { part = piece; found = found; is = (refl, refl); calm = offers }, is), tt), inr (refl, omega (arith, count)))
 
-pub return_onto : (c : ℕ) (s : Space) (span : Span) (later : Then) (found : Option ℕ) (answer : Answer) → Sound s → HasOffered (mine c s) span → IsThen later →
+pub return_onto : (c : ℕ) (s : Space) (span : Span) (later : AfterFlight) (found : Option ℕ) (answer : Answer) → Sound s → HasOffered (mine c s) span → IsThen later →
     AnswersTo (Dalloc span true) answer →
     Onto c (returned span later) (stages_then later) (left_ask (flights_of c s) (Returning span later)) (after_offer s c found (Dalloc span true) answer)
 return_onto c s span later found Done sound has is kind =
@@ -116,7 +116,7 @@ return_onto c s span later found (Placed b zeroed first) sound has is kind = abs
 retained_settled : (r : Rest) → r ≡ ToRetained → is_listed r Dirty ≡ false
 retained_settled r h = rw h refl
 
-pub decommit_onto : (c : ℕ) (s : Space) (span : Span) (later : Then) (answer : Answer) → Sound s →
+pub decommit_onto : (c : ℕ) (s : Space) (span : Span) (later : AfterFlight) (answer : Answer) → Sound s →
     (flies : Flies (mine c s) span (λ p. (p.committed ≡ true) × (rest_of p.state ≡ ToRetained))) → IsThen later → AnswersTo (Decommit span) answer →
     Onto c (decommitted span later) (stages_then later) (left_ask (flights_of c s) (Decommitting span later)) (after_decommit s c (Decommit span) answer)
 decommit_onto c s span later Done sound flies is kind =
@@ -127,7 +127,7 @@ decommit_onto c s span later Refuses sound flies is kind =
     (((record { part = flies.part; found = flies.found; is = flies.is.1; calm = flies.calm }, is), tt), inr (refl, omega arith))
 decommit_onto c s span later (Placed b zeroed first) sound flies is kind = absurd (kind first b zeroed refl)
 
-pub forced_onto : (c : ℕ) (s : Space) (span : Span) (later : Then) → (flies : Flies (mine c s) span (λ p. rest_of p.state ≡ ToRetained)) → IsThen later →
+pub forced_onto : (c : ℕ) (s : Space) (span : Span) (later : AfterFlight) → (flies : Flies (mine c s) span (λ p. rest_of p.state ≡ ToRetained)) → IsThen later →
     Onto c (forced span later) (stages_then later) (left_ask (flights_of c s) (Forcing span later)) (stays s Noted)
 forced_onto c s span later flies is =
     purged_goes c s span later _ flies.part flies.calm is flies.found (retained_settled (rest_of flies.part.state) flies.is) (omega arith)

@@ -1,5 +1,5 @@
 -- A free makes few asks for what its own returns emptied.
-use Rattle.call_plan.proofs.Words.{◌≡◌, ℕ, ◌+◌, ◌-◌, ◌*◌, ◌≤◌, Bool, true, cond, List, [], ◌∷◌, Option, None, Some, sym, subst, arith, add-zero, count_by, nat_tests, sum_by-cons, lost, won, Request, Item, Replied, Told, Starved, Batches, TurnPoint, Giving, Finding, Offering, Owning, AskPoint, Merging, Easing, Returning, Decommitting, Forcing, Point, Turns, Asks, Tells, Next, Go, Over, Move, Reply, Space, Sound, mine, AskFacts, DeskFacts, done_at, is_marked, op_at, starved, step, told, turn_replied, want, Moment, after, begin, begin_stage, settle, step_next, desk_fed, Knows, Keeps, Moves, left, stages, unheard, with_found, flying, is_free, is_told, is_purge, Stride, Strides, Follows, Walks, emptied_by, emptied_by_all, asks, purges, FreesAreFew}
+use Rattle.call_plan.proofs.Words.{◌≡◌, ℕ, ◌+◌, ◌-◌, ◌*◌, ◌≤◌, Bool, true, cond, List, [], ◌∷◌, Option, None, Some, sym, subst, arith, add-zero, count_by, nat_tests, sum_by-cons, lost, won, Request, Item, Replied, Told, Starved, Batches, TurnPoint, Giving, Finding, Offering, Owning, AskPoint, Merging, PurgingLazily, Returning, Decommitting, Forcing, Point, Turns, Asks, Tells, Next, Go, InArena, Move, Reply, Space, Sound, mine, AskFacts, DeskFacts, done_at, is_marked, op_at, starved, step, told, turn_replied, want, Moment, after, begin, begin_stage, settle, step_next, desk_fed, Knows, Keeps, Moves, left, stages, unheard, with_found, flying, is_free, is_told, is_purge, Stride, Strides, Follows, Walks, emptied_by, emptied_by_all, asks, purges, FreesAreFew}
 use Rattle.call_plan.specs.Desks.{meant, ready}
 use Rattle.call_plan.proofs.Swaps.{meant_alike}
 use Rattle.std.proofs.Common.{◌∙◌}
@@ -20,7 +20,7 @@ TurnPaid f made most point = ⊥
 
 abbrev pub AskPaid : ℕ → ℕ → ℕ → AskPoint → Type 0
 AskPaid f made most (Merging low high own_low fresh Batches) = made + (2 * (f - 2) + cond own_low 1 0) ≤ most
-AskPaid f made most (Easing span Batches) = made + (2 * (f - 1) + 5) ≤ most
+AskPaid f made most (PurgingLazily span Batches) = made + (2 * (f - 1) + 5) ≤ most
 AskPaid f made most (Returning span Batches) = made + (2 * f + 4) ≤ most
 AskPaid f made most (Decommitting span Batches) = made + (2 * (f - 1) + 3) ≤ most
 AskPaid f made most (Forcing span Batches) = made + (2 * (f - 1) + 2) ≤ most
@@ -30,7 +30,7 @@ abbrev pub Paid : ℕ → ℕ → ℕ → Next → Type 0
 Paid f made most (Go (Turns point)) = TurnPaid f made most point
 Paid f made most (Go (Asks point heard)) = AskPaid f (made + unheard heard) most point
 Paid f made most (Go (Tells span b)) = ⊥
-Paid f made most (Over index point) = ⊥
+Paid f made most (InArena index point) = ⊥
 Paid f made most (Move class) = ⊥
 Paid f made most next = made ≤ most
 

@@ -1,5 +1,5 @@
 -- Where the region of a memalign stands: each step of it keeps what the first page of its extent is a multiple of.
-use Rattle.call_plan.proofs.Words.{Move, ◌∣◌, ◌≡◌, ℕ, ◌+◌, ◌*◌, ◌%◌, ◌<◌, ◌≤◌, max, min, Bool, true, false, cond, List, [], ◌∷◌, Option, None, Some, refl, sym, subst, arith, nat_lt, find, All, rules, slice_get, cond_both, ltb-true, nat_tests, All-head, dvd_of_mod-eq-zero, dvd_trans, mod-eq-zero_of_dvd, get_or_from_slice_get, slice_get_within, is_flight_at, region_of, after_fill, Stepped, after_cut, after_grow, after_look, is_live, step_of, Spot, lowest_spots, found_span, before_last, Memalign, Item, Ok, Wish, TurnPoint, Filling, Looking, Landing, AskPoint, Skipping, Trimming, Growing, Paring, Needing, Granting, Committing, Point, Turns, Asks, Tells, Next, Go, Over, More, Ends, Alloc, Split, Answer, Reply, Noted, Took, Grow, Cut, Grown, Landed, Regions, Space, Part, Span, Sound, AskFacts, Held, DeskFacts, align_at, aligned_for, fill_at, land_at, lowest_free, most_regions, max_series, cached_in, is_cacheable, alloc_of, ask_at, chunks_for, commit, done_at, op_at, told, trim, turn_replied, whole_chunks, begin, begin_get, begin_memalign, get, is_alignment, page_align, share, small_hit, step_next, wish_for, with_found, AllCame, Came, IsCacheAligned, MemalignsAreAligned}
+use Rattle.call_plan.proofs.Words.{Move, ◌∣◌, ◌≡◌, ℕ, ◌+◌, ◌*◌, ◌%◌, ◌<◌, ◌≤◌, max, min, Bool, true, false, cond, List, [], ◌∷◌, Option, None, Some, refl, sym, subst, arith, nat_lt, find, All, rules, slice_get, cond_both, ltb-true, nat_tests, All-head, dvd_of_mod-eq-zero, dvd_trans, mod-eq-zero_of_dvd, get_or_from_slice_get, slice_get_within, is_flight_at, region_of, after_fill, Stepped, after_cut, after_grow, after_look, is_live, step_of, Spot, lowest_spots, found_span, before_last, Memalign, Item, Ok, Wish, TurnPoint, Filling, Looking, Landing, AskPoint, Skipping, Trimming, Growing, SplittingGrown, GrowingExactly, SplittingExact, Committing, Point, Turns, Asks, Tells, Next, Go, InArena, NextBatch, Ends, Alloc, Split, Answer, Reply, Noted, Took, Grow, Cut, Grown, Landed, Regions, Space, Part, Span, Sound, AskFacts, Held, DeskFacts, align_at, aligned_for, fill_at, land_at, lowest_free, most_regions, max_series, cached_in, is_cacheable, alloc_of, ask_at, chunks_for, commit, done_at, op_at, told, trim, turn_replied, whole_chunks, begin, begin_get, begin_memalign, get, is_alignment, page_align, share, small_hit, step_next, wish_for, with_found, AllCame, Came, IsCacheAligned, MemalignsAreAligned}
 use Rattle.call_plan.specs.Words.{Region}
 use Rattle.call_plan.proofs.Bounds.{run_keeps}
 use Rattle.call_plan.proofs.Multiples.{page_divides, paged_of, run_divides, small_divides}
@@ -78,9 +78,9 @@ module _ (align size : ℕ) where
   AskAligned (Skipping wish span b skip) = Starts wish (span.first + skip)
   AskAligned (Trimming wish span b) = Starts wish span.first
   AskAligned (Growing wish chunks) = Aims wish
-  AskAligned (Paring wish span b) = Starts wish span.first
-  AskAligned (Needing wish) = Aims wish
-  AskAligned (Granting wish span b) = Starts wish span.first
+  AskAligned (SplittingGrown wish span b) = Starts wish span.first
+  AskAligned (GrowingExactly wish) = Aims wish
+  AskAligned (SplittingExact wish span b) = Starts wish span.first
   AskAligned (Committing wish span) = Starts wish span.first
   AskAligned point = ⊥
 
@@ -92,8 +92,8 @@ module _ (align size : ℕ) where
 
   abbrev pub NextAligned : Next → Type 0
   NextAligned (Go point) = PointAligned point
-  NextAligned (Over index point) = ⊥
-  NextAligned More = ⊥
+  NextAligned (InArena index point) = ⊥
+  NextAligned NextBatch = ⊥
   NextAligned (Move class) = ⊥
   NextAligned (Ends (Ok (Region addr class))) = (class ≡ aligned_for size align) × (addr % align ≡ 0)
   NextAligned next = Unit {0}
@@ -143,11 +143,11 @@ module _ (align size : ℕ) where
   told_aligned s c found (Skipping wish span b skip) asked (Cut high) starts is e = trim_aligned wish high b (cut_starts s c false wish span skip asked high is starts e)
   told_aligned s c found (Trimming wish span b) asked (Cut low) starts is e = commit_aligned wish low b (cut_starts s c true wish span wish.pages asked low is starts e)
   told_aligned s c found (Growing wish chunks) asked (Grown span b) aims is e = grown_starts s c found wish (chunks * 512) asked span b is aims e
-  told_aligned s c found (Paring wish span b) asked (Cut low) starts is e = commit_aligned wish low b (cut_starts s c true wish span wish.pages asked low is starts e)
-  told_aligned s c found (Needing wish) asked (Grown span b) aims is e =
+  told_aligned s c found (SplittingGrown wish span b) asked (Cut low) starts is e = commit_aligned wish low b (cut_starts s c true wish span wish.pages asked low is starts e)
+  told_aligned s c found (GrowingExactly wish) asked (Grown span b) aims is e =
       let starts = grown_starts s c found wish (whole_chunks wish.pages) asked span b is aims e in
       cond_both (nat_lt wish.pages span.pages) _ _ NextAligned (λ _. starts) (λ _. commit_aligned wish span b starts)
-  told_aligned s c found (Granting wish span b) asked (Cut low) starts is e = commit_aligned wish low b (cut_starts s c true wish span wish.pages asked low is starts e)
+  told_aligned s c found (SplittingExact wish span b) asked (Cut low) starts is e = commit_aligned wish low b (cut_starts s c true wish span wish.pages asked low is starts e)
   told_aligned s c found (Committing wish span) asked Noted starts is e = starts
   told_aligned s c found point asked reply knows is e = search rules
 

@@ -1,5 +1,5 @@
 -- Regions that its client comes to hold have room: where none is wanted, none is wanted either where the call goes.
-use Rattle.call_plan.proofs.Words.{◌≡◌, ℕ, ◌+◌, ◌≤◌, ◌||◌, Bool, true, false, Option, None, Some, is_some, arith, refl, nat_tests, Request, Item, Point, Next, Go, Over, More, Move, Gone, Ends, Nowhere, Stage, Held, BatchFacts, DeskFacts, CallFacts, gets_at, frees_at, may_hold, one_if, places, started, NoSuchArena, HasRoomToHold, ended_by, begin, desk_fed, desk_led, desk_moved, begin_desk, begin_stage, batch_goes, get, gives, hit, move_stage, settle, share, step_next, step, List, [], ◌∷◌, sharing, batch_of, going, flushes}
+use Rattle.call_plan.proofs.Words.{◌≡◌, ℕ, ◌+◌, ◌≤◌, ◌||◌, Bool, true, false, Option, None, Some, is_some, arith, refl, nat_tests, Request, Item, Point, Next, Go, InArena, NextBatch, Move, NotLive, Ends, Nowhere, Stage, Held, BatchFacts, DeskFacts, CallFacts, gets_at, frees_at, may_hold, one_if, places, started, NoSuchArena, HasRoomToHold, ended_by, begin, desk_fed, desk_led, desk_moved, begin_desk, begin_stage, batch_goes, get, gives, hit, move_stage, settle, share, step_next, step, List, [], ◌∷◌, sharing, batch_of, going, flushes}
 use Rattle.std.proofs.Common.{◌∙◌, ap, refl}
 use Rattle.call_plan.specs.Desks.{meant, ready}
 use Rattle.call_plan.specs.Runs.{begun}
@@ -9,13 +9,13 @@ use Rattle.call_plan.proofs.Credits.{begin-is_call}
 -- whether a region that is to be freed may come where it leads
 abbrev pub frees : Next → Bool
 frees (Go point) = frees_at point
-frees (Over index point) = frees_at point
+frees (InArena index point) = frees_at point
 frees next = false
 
 -- whether a region may come there that stays
 abbrev pub gains : Next → Bool
 gains (Go point) = gets_at point
-gains (Over index point) = gets_at point
+gains (InArena index point) = gets_at point
 gains (Move class) = true
 gains (Ends (Answers (Region addr class))) = true
 gains next = false
@@ -59,10 +59,10 @@ step_most desk arena point item =
 
 -- ---- where it then stands
 
-batch_places : (desk : DeskFacts) (arena : ℕ) (request : Request) (batch : Option BatchFacts) → places desk (batch_goes arena (gives request desk) batch).next ≤ most desk More
+batch_places : (desk : DeskFacts) (arena : ℕ) (request : Request) (batch : Option BatchFacts) → places desk (batch_goes arena (gives request desk) batch).next ≤ most desk NextBatch
 batch_places desk arena request batch = grind arith
 
-moved_most : (desk : DeskFacts) (class : ℕ) (region : Held) → most (desk_moved class (Some region) desk) More ≤ most desk (Move class)
+moved_most : (desk : DeskFacts) (class : ℕ) (region : Held) → most (desk_moved class (Some region) desk) NextBatch ≤ most desk (Move class)
 moved_most desk class region = grind arith
 
 get_places : (desk : DeskFacts) (class count : ℕ) → places desk (get true class 1 count) ≤ most desk (Move class)
@@ -75,15 +75,15 @@ move_places desk request arena class (Some region) = omega (arith, batch_places 
 next_places : (desk : DeskFacts) (next : Next) → places desk next ≤ most desk next
 next_places desk next = grind arith
 
-gone_places : (desk : DeskFacts) (arena : ℕ) → places desk (Ends (NoSuchArena arena)) ≤ most desk Gone
+gone_places : (desk : DeskFacts) (arena : ℕ) → places desk (Ends (NoSuchArena arena)) ≤ most desk NotLive
 gone_places desk arena = grind arith
 
 settle_places : (request : Request) (desk : DeskFacts) (arena : ℕ) (next : Next) → places (desk_led desk next) (settle request desk arena next).next ≤ most desk next
 settle_places request desk arena (Go point) = next_places desk (Go point)
-settle_places request desk arena (Over index point) = omega arith
-settle_places request desk arena More = batch_places desk arena request (batch_of (going (flushes request) desk))
+settle_places request desk arena (InArena index point) = omega arith
+settle_places request desk arena NextBatch = batch_places desk arena request (batch_of (going (flushes request) desk))
 settle_places request desk arena (Move class) = move_places desk request arena class (hit class desk)
-settle_places request desk arena Gone = gone_places desk arena
+settle_places request desk arena NotLive = gone_places desk arena
 settle_places request desk arena (Ends answer) = next_places desk (Ends answer)
 settle_places request desk arena Nowhere = omega arith
 

@@ -1,12 +1,12 @@
 -- A call takes no more extents out of a list than stood in it at its first turn there.
-use Rattle.call_plan.proofs.Words.{◌≡◌, refl, ℕ, ◌+◌, ◌≤◌, ◌<◌, Bool, cond, List, [], ◌∷◌, Option, None, Some, arith, ap, find, nat_tests, is_listed, listed, after_purge_take, count_listed, purge_at, find-le-sum_by, Request, Item, Replied, Starved, Then, Batches, Visiting, TurnPoint, Taking, Finding, Offering, AskPoint, Merging, Easing, Returning, Decommitting, Forcing, Point, Turns, Asks, Next, Go, Over, Reply, Taken, Rest, Part, Space, mine, AskFacts, DeskFacts, WantTurn, is_marked, op_at, starved, step, told, turn_replied, want, Moment, after, begin, begin_stage, settle, step_next, desk_fed, Knows, KnowsTurn, HasLeft, Moves, Stride, Strides, Walks, taken_by, taken_of, found_by, found_of, PurgesAreFew, Moving, More, Move, Gone, Ends, Nowhere, Held, BatchFacts, batch_goes, gives, hit, move_stage, batch_of, going, flushes, Realloc, begin_resize, begin_realloc, held_at, resizing, class_for, cond_both, nat_lt, ◌^◌, Stage}
+use Rattle.call_plan.proofs.Words.{◌≡◌, refl, ℕ, ◌+◌, ◌≤◌, ◌<◌, Bool, cond, List, [], ◌∷◌, Option, None, Some, arith, ap, find, nat_tests, is_listed, listed, after_purge_take, count_listed, purge_at, find-le-sum_by, Request, Item, Replied, Starved, AfterFlight, Batches, Visiting, TurnPoint, Taking, Finding, Offering, AskPoint, Merging, PurgingLazily, Returning, Decommitting, Forcing, Point, Turns, Asks, Next, Go, InArena, Reply, Taken, Rest, Part, Space, mine, AskFacts, DeskFacts, WantTurn, is_marked, op_at, starved, step, told, turn_replied, want, Moment, after, begin, begin_stage, settle, step_next, desk_fed, Knows, KnowsTurn, HasLeft, Moves, Stride, Strides, Walks, taken_by, taken_of, found_by, found_of, PurgesAreFew, Moving, NextBatch, Move, NotLive, Ends, Nowhere, Held, BatchFacts, batch_goes, gives, hit, move_stage, batch_of, going, flushes, Realloc, begin_resize, begin_realloc, held_at, resizing, class_for, cond_both, nat_lt, ◌^◌, Stage}
 use Rattle.call_plan.specs.Desks.{meant, ready}
 use Rattle.space_model.proofs.Lists.{find_passes}
 
 -- ---- what is still to be taken
 
 -- how many extents may still be taken out of a list after what is at hand
-abbrev pub then_takes : Rest → Then → ℕ
+abbrev pub then_takes : Rest → AfterFlight → ℕ
 then_takes rest Batches = 0
 then_takes rest (Moving class) = 0
 then_takes rest (Visiting visit left) = cond (is_listed rest (listed visit.rest)) left 0
@@ -19,7 +19,7 @@ turn_takes rest point = 0
 
 abbrev pub ask_takes : Rest → AskPoint → ℕ
 ask_takes rest (Merging low high own_low fresh later) = then_takes rest later
-ask_takes rest (Easing span later) = then_takes rest later
+ask_takes rest (PurgingLazily span later) = then_takes rest later
 ask_takes rest (Returning span later) = then_takes rest later
 ask_takes rest (Decommitting span later) = then_takes rest later
 ask_takes rest (Forcing span later) = then_takes rest later
@@ -28,8 +28,8 @@ ask_takes rest point = 0
 abbrev pub takes : Rest → Next → ℕ
 takes rest (Go (Turns point)) = turn_takes rest point
 takes rest (Go (Asks point heard)) = ask_takes rest point
-takes rest (Over index (Turns point)) = turn_takes rest point
-takes rest (Over index (Asks point heard)) = ask_takes rest point
+takes rest (InArena index (Turns point)) = turn_takes rest point
+takes rest (InArena index (Asks point heard)) = ask_takes rest point
 takes rest next = 0
 
 -- ---- a step
@@ -84,15 +84,15 @@ batch_takes rest arena gained batch = grind arith
 move_takes : (rest : Rest) (request : Request) (desk : DeskFacts) (arena class : ℕ) (found : Option Held) → takes rest (move_stage request arena class found desk).next ≡ 0
 move_takes rest request desk arena class found = grind (arith, nat_tests, batch_takes)
 
-over_takes : (rest : Rest) (index : ℕ) (point : Point) → takes rest (Go point) ≤ takes rest (Over index point)
+over_takes : (rest : Rest) (index : ℕ) (point : Point) → takes rest (Go point) ≤ takes rest (InArena index point)
 over_takes rest index point = grind arith
 
 settled_takes : (rest : Rest) (request : Request) (desk : DeskFacts) (arena : ℕ) (next : Next) → takes rest (settle request desk arena next).next ≤ takes rest next
 settled_takes rest request desk arena (Go point) = omega arith
-settled_takes rest request desk arena (Over index point) = over_takes rest index point
-settled_takes rest request desk arena More = omega (arith, batch_takes rest arena (gives request desk) (batch_of (going (flushes request) desk)))
+settled_takes rest request desk arena (InArena index point) = over_takes rest index point
+settled_takes rest request desk arena NextBatch = omega (arith, batch_takes rest arena (gives request desk) (batch_of (going (flushes request) desk)))
 settled_takes rest request desk arena (Move class) = omega (arith, move_takes rest request desk arena class (hit class desk))
-settled_takes rest request desk arena Gone = omega arith
+settled_takes rest request desk arena NotLive = omega arith
 settled_takes rest request desk arena (Ends answer) = omega arith
 settled_takes rest request desk arena Nowhere = omega arith
 

@@ -1,5 +1,5 @@
 -- What the turns of a call leave that puts extents down: what it knows where it goes on.
-use Rattle.call_plan.proofs.Words.{append-nil, inl, inr, ◌⊎◌, ◌≡◌, ◌≢◌, ℕ, ◌+◌, ◌-◌, ◌*◌, ◌<◌, ◌≤◌, ◌==◌, ◌&&◌, ◌||◌, Bool, true, false, not, cond, List, [], ◌∷◌, ◌++◌, Option, None, Some, refl, sym, ◌∙◌, ap, subst, arith, filter, find, length, lt-ltb, beq, option_map, option_or, nat_tests, cond_both, eqb-true, or_right, length-append, find-append, filter-append, filter-without, Dirty, exchanged, begins_at, is_flight, is_flight_at, is_listed, rest_of, put_down, taken_out, Stepped, joined, begins_either, is_lazy, is_purged, next_flight, is_like, is_right_of, is_left_of, neighbour, put_at_rest, put_beside, may_merge, join_at, after_merge, after_back, find_passes, find_has, filter-begins_at, span_is, neighbour_side, belongs, some_pages, put_down-nobody, listed-nobody, both_true, itself, Then, Batches, Giving, Finding, Point, Turns, Merge, Answer, Placed, Done, Refuses, Purge, Rest, ToDirty, Space, Part, Span, Sound, mine, same_span, end_of, AnswersTo, look_on, merged, onward, put_next, turn_replied, visited, Idle, Flies, HasPair, Settled, Droppable, IsThen, IsCalm, in_flight, Keeps, IsNearer, stages, stages_then, stages_later, left, left_then, left_turn, flights_of, looks_left, purges_left, Visit}
+use Rattle.call_plan.proofs.Words.{append-nil, inl, inr, ◌⊎◌, ◌≡◌, ◌≢◌, ℕ, ◌+◌, ◌-◌, ◌*◌, ◌<◌, ◌≤◌, ◌==◌, ◌&&◌, ◌||◌, Bool, true, false, not, cond, List, [], ◌∷◌, ◌++◌, Option, None, Some, refl, sym, ◌∙◌, ap, subst, arith, filter, find, length, lt-ltb, beq, option_map, option_or, nat_tests, cond_both, eqb-true, or_right, length-append, find-append, filter-append, filter-without, Dirty, exchanged, begins_at, is_flight, is_flight_at, is_listed, rest_of, put_down, taken_out, Stepped, joined, begins_either, is_lazy, is_purged, next_flight, is_like, is_right_of, is_left_of, neighbour, put_at_rest, put_beside, may_merge, join_at, after_merge, after_back, find_passes, find_has, filter-begins_at, span_is, neighbour_side, belongs, some_pages, put_down-nobody, listed-nobody, both_true, itself, AfterFlight, Batches, Giving, Finding, Point, Turns, Merge, Answer, Placed, Done, Refuses, Purge, Rest, ToDirty, Space, Part, Span, Sound, mine, same_span, end_of, AnswersTo, look_on, merged, onward, put_next, turn_replied, visited, Idle, Flies, HasPair, Settled, Droppable, IsThen, IsCalm, in_flight, Keeps, IsNearer, stages, stages_then, stages_later, left, left_then, left_turn, flights_of, looks_left, purges_left, Visit}
 use Rattle.call_plan.specs.Table.{drop}
 use Rattle.call_plan.proofs.Lists.{filter-swap, find-kept, find-none, filter-fewer, filter-either, first_heads, none_passes, find-gone}
 use Rattle.call_plan.proofs.Own.{flight_found, flights_exchanged}
@@ -8,15 +8,15 @@ use Rattle.call_plan.proofs.Getting.{Onto, span_itself, begins_itself}
 -- ---- what follows
 
 -- there is room for what follows after so many turns and asks: it is of an earlier stage, or it is fewer
-abbrev pub Room : ℕ → ℕ → Then → ℕ → Type 0
+abbrev pub Room : ℕ → ℕ → AfterFlight → ℕ → Type 0
 Room stage bound later n = (stages_then later < stage) ⊎ ((stages_then later ≡ stage) × (n + left_then later < bound))
 
 -- fewer have room too
-pub fewer_room : (stage bound : ℕ) (later : Then) (m n : ℕ) → m ≤ n → Room stage bound later n → Room stage bound later m
+pub fewer_room : (stage bound : ℕ) (later : AfterFlight) (m n : ℕ) → m ≤ n → Room stage bound later n → Room stage bound later m
 fewer_room stage bound later m n less room = grind arith
 
 -- a point of this stage has it
-pub near : (c : ℕ) (t : Space) (stage bound : ℕ) (later : Then) (point : Point) (n : ℕ) → stages point ≡ stages_then later → left c t point ≤ n + left_then later →
+pub near : (c : ℕ) (t : Space) (stage bound : ℕ) (later : AfterFlight) (point : Point) (n : ℕ) → stages point ≡ stages_then later → left c t point ≤ n + left_then later →
     Room stage bound later n → IsNearer c t stage bound point
 near c t stage bound later point n same most room = grind arith
 
@@ -24,14 +24,14 @@ near c t stage bound later point n same most room = grind arith
 pub visited_goes : (c : ℕ) (t : Space) (stage bound : ℕ) (visit : Visit) → Idle (mine c t) → stages_later visit ≤ stage → Keeps c t stage bound (visited visit)
 visited_goes c t stage bound visit idle most = grind arith
 
-onward_goes : (c : ℕ) (t : Space) (stage bound : ℕ) (later : Then) → Idle (mine c t) → IsThen later → Room stage bound later 0 →
+onward_goes : (c : ℕ) (t : Space) (stage bound : ℕ) (later : AfterFlight) → Idle (mine c t) → IsThen later → Room stage bound later 0 →
     Keeps c t stage bound (onward later)
 onward_goes c t stage bound later idle is room = grind (arith, nat_tests)
 
 -- ---- the extent that a reply names
 
 -- the first extent in flight is put down next
-pub next_goes : (c : ℕ) (t : Space) (stage bound : ℕ) (later : Then) → IsCalm (mine c t) → IsThen later → Room stage bound later (30 * flights_of c t) →
+pub next_goes : (c : ℕ) (t : Space) (stage bound : ℕ) (later : AfterFlight) → IsCalm (mine c t) → IsThen later → Room stage bound later (30 * flights_of c t) →
     Keeps c t stage bound (put_next later (next_flight c t.parts))
 next_goes c t stage bound later offers is room =
     elim (find (λ q. is_flight c q.state) t.parts) as (λ o. find (λ q. is_flight c q.state) t.parts ≡ o → Keeps c t stage bound (put_next later (option_map (λ p. p.span) o))) [
@@ -115,7 +115,7 @@ looks_early : (tries : ℕ) → tries < 2 → 4 ≤ looks_left tries
 looks_early tries h = grind (arith, nat_tests)
 
 -- the neighbour is in flight too
-beside_onto : (c : ℕ) (s : Space) (own : Span) (tries : ℕ) (fresh : Bool) (later : Then) (p other : Part) → Sound s → tries < 3 → IsCalm (mine c s) →
+beside_onto : (c : ℕ) (s : Space) (own : Span) (tries : ℕ) (fresh : Bool) (later : AfterFlight) (p other : Part) → Sound s → tries < 3 → IsCalm (mine c s) →
     IsThen later → in_flight own (mine c s).flights ≡ Some p → Settled fresh p → At c s own p → Near tries p other s.parts →
     Onto c (turn_replied (Finding own tries fresh later)) (stages_then later) (left_turn (flights_of c s) 0 (Finding own tries fresh later)) (put_beside s c p (Some other))
 beside_onto c s own tries fresh later p other sound look offers is found settled at near =
@@ -171,7 +171,7 @@ down_flies_not : (c : ℕ) (p : Part) → filter (λ q. is_flight c q.state) (pu
 down_flies_not c p = ap (λ (v : Bool). cond v (put_down p ∷ []) []) (put_down-nobody c (rest_of p.state))
 
 -- the extent is put down
-rest_onto : (c : ℕ) (s : Space) (own : Span) (tries : ℕ) (fresh : Bool) (later : Then) (p : Part) → IsCalm (mine c s) → IsThen later →
+rest_onto : (c : ℕ) (s : Space) (own : Span) (tries : ℕ) (fresh : Bool) (later : AfterFlight) (p : Part) → IsCalm (mine c s) → IsThen later →
     in_flight own (mine c s).flights ≡ Some p →
     Onto c (turn_replied (Finding own tries fresh later)) (stages_then later) (left_turn (flights_of c s) 0 (Finding own tries fresh later)) (put_at_rest s c p)
 rest_onto c s own tries fresh later p offers is found =
@@ -185,7 +185,7 @@ rest_onto c s own tries fresh later p offers is found =
 -- ---- an extent that is purged
 
 -- an extent is purged lazily, or offered to its hook
-pub drop_goes : (c : ℕ) (t : Space) (stage bound : ℕ) (span : Span) (lazy : Bool) (later : Then) (p : Part) → IsCalm (mine c t) → IsThen later →
+pub drop_goes : (c : ℕ) (t : Space) (stage bound : ℕ) (span : Span) (lazy : Bool) (later : AfterFlight) (p : Part) → IsCalm (mine c t) → IsThen later →
     in_flight span (mine c t).flights ≡ Some p → (lazy ≡ true → rest_of p.state ≡ ToDirty) → Droppable p → Room stage bound later (30 * (flights_of c t - 1) + 16) →
     Keeps c t stage bound (drop span lazy later)
 drop_goes c t stage bound span lazy later p offers is found dirty backed room = grind (arith, near, dirty)
@@ -194,7 +194,7 @@ pub listed_dirty : (r : Rest) → is_listed r Dirty ≡ true → r ≡ ToDirty
 listed_dirty r h = grind arith
 
 -- an extent that belongs to the dirty ones, of which none may stay, is dropped
-purge_goes : (c : ℕ) (s : Space) (own : Span) (tries : ℕ) (fresh : Bool) (later : Then) (lazy : Bool) (p : Part) → IsCalm (mine c s) → IsThen later →
+purge_goes : (c : ℕ) (s : Space) (own : Span) (tries : ℕ) (fresh : Bool) (later : AfterFlight) (lazy : Bool) (p : Part) → IsCalm (mine c s) → IsThen later →
     in_flight own (mine c s).flights ≡ Some p → Settled fresh p → is_listed (rest_of p.state) Dirty ≡ true →
     Keeps c s (stages_then later) (left_turn (flights_of c s) 0 (Finding own tries fresh later)) (turn_replied (Finding own tries fresh later) (Purge lazy))
 purge_goes c s own tries true later lazy p offers is found settled purged =
@@ -202,7 +202,7 @@ purge_goes c s own tries true later lazy p offers is found settled purged =
     drop_goes c s (stages_then later) _ own lazy later p offers is found (λ _. dirty) (rw dirty refl) (inr (refl, omega (arith, looks_some tries)))
 purge_goes c s own tries false later lazy p offers is found settled purged = absurd (cc)
 
-put_found : (c : ℕ) (s : Space) (own : Span) (tries : ℕ) (fresh : Bool) (later : Then) (flies : Flies (mine c s) own (Settled fresh)) (o : Option Part) → Sound s → tries < 3 →
+put_found : (c : ℕ) (s : Space) (own : Span) (tries : ℕ) (fresh : Bool) (later : AfterFlight) (flies : Flies (mine c s) own (Settled fresh)) (o : Option Part) → Sound s → tries < 3 →
     IsThen later → neighbour tries flies.part s.parts ≡ o →
     Onto c (turn_replied (Finding own tries fresh later)) (stages_then later) (left_turn (flights_of c s) 0 (Finding own tries fresh later)) (put_beside s c flies.part o)
 put_found c s own tries fresh later flies (Some other) sound look is e =
@@ -214,19 +214,19 @@ put_found c s own tries fresh later flies None sound look is e =
     (λ h. rest_onto c s own tries fresh later flies.part flies.calm is flies.found)
 
 -- the reply to a look for a neighbour
-pub put_onto : (c : ℕ) (s : Space) (own : Span) (tries : ℕ) (fresh : Bool) (later : Then) → Sound s → tries < 3 → (flies : Flies (mine c s) own (Settled fresh)) → IsThen later →
+pub put_onto : (c : ℕ) (s : Space) (own : Span) (tries : ℕ) (fresh : Bool) (later : AfterFlight) → Sound s → tries < 3 → (flies : Flies (mine c s) own (Settled fresh)) → IsThen later →
     Onto c (turn_replied (Finding own tries fresh later)) (stages_then later) (left_turn (flights_of c s) 0 (Finding own tries fresh later)) (put_beside s c flies.part (neighbour tries flies.part s.parts))
 put_onto c s own tries fresh later sound look flies is = put_found c s own tries fresh later flies (neighbour tries flies.part s.parts) sound look is refl
 
 -- ---- the merge
 
 -- the extent that stays in flight looks on
-looking : (c : ℕ) (t : Space) (own : Span) (own_low fresh : Bool) (later : Then) (bound : ℕ) → Flies (mine c t) own (Settled fresh) → IsThen later → 30 * (flights_of c t - 1) ≤ bound →
+looking : (c : ℕ) (t : Space) (own : Span) (own_low fresh : Bool) (later : AfterFlight) (bound : ℕ) → Flies (mine c t) own (Settled fresh) → IsThen later → 30 * (flights_of c t - 1) ≤ bound →
     Keeps c t (stages_then later) (bound + cond own_low 5 2 + purges_left fresh + left_then later) (look_on own own_low fresh later)
 looking c t own own_low fresh later bound flies is most = grind arith
 
 -- both are one from now on
-join_onto : (c : ℕ) (s : Space) (low high : Span) (own_low fresh : Bool) (later : Then) (p q : Part) → IsCalm (mine c s) → IsThen later → Settled fresh p →
+join_onto : (c : ℕ) (s : Space) (low high : Span) (own_low fresh : Bool) (later : AfterFlight) (p q : Part) → IsCalm (mine c s) → IsThen later → Settled fresh p →
     in_flight low (mine c s).flights ≡ Some p → in_flight high (mine c s).flights ≡ Some q → At c s low p → At c s high q → end_of low ≡ high.first →
     Onto c (merged own_low fresh later) (stages_then later) (30 * (flights_of c s - 2) + cond own_low 5 2 + purges_left fresh + left_then later) (join_at s (Some p) (Some q))
 join_onto c s low high own_low fresh later p q offers is settled low_found high_found at to side =
@@ -256,7 +256,7 @@ join_onto c s low high own_low fresh later p q offers is settled low_found high_
     looking c t (joined p q).span own_low fresh later (30 * (flights_of c s - 2)) (record { part = joined p q; found = found; is = settled_like fresh p (joined p q) refl settled; calm = offers }) is (omega (arith, one, two, front, count))
 
 -- the neighbour is put down again
-apart_goes : (c : ℕ) (s : Space) (own other : Span) (own_low fresh : Bool) (later : Then) (p q : Part) → IsCalm (mine c s) → IsThen later → Settled fresh p →
+apart_goes : (c : ℕ) (s : Space) (own other : Span) (own_low fresh : Bool) (later : AfterFlight) (p q : Part) → IsCalm (mine c s) → IsThen later → Settled fresh p →
     in_flight own (mine c s).flights ≡ Some p → in_flight other (mine c s).flights ≡ Some q → At c s own p → At c s other q → own.first ≢ other.first →
     Keeps c (record s { parts = exchanged (begins_at q.span.first) s.parts (put_down q ∷ []) }) (stages_then later)
     (30 * (flights_of c s - 2) + cond own_low 5 2 + purges_left fresh + left_then later) (look_on p.span own_low fresh later)
@@ -273,7 +273,7 @@ apart_goes c s own other own_low fresh later p q offers is settled own_found oth
     (record { part = p; found = ap (λ span. in_flight span (mine c t).flights) at.spans ∙ found; is = settled; calm = offers }) is (omega (arith, fewer, count))
 
 -- the answer to a merge
-pub merge_onto : (c : ℕ) (s : Space) (low high : Span) (own_low fresh : Bool) (later : Then) (answer : Answer) → Sound s → HasPair (mine c s) low high fresh → IsThen later →
+pub merge_onto : (c : ℕ) (s : Space) (low high : Span) (own_low fresh : Bool) (later : AfterFlight) (answer : Answer) → Sound s → HasPair (mine c s) low high fresh → IsThen later →
     AnswersTo (Merge low high) answer →
     Onto c (merged own_low fresh later) (stages_then later) (30 * (flights_of c s - 2) + cond own_low 5 2 + purges_left fresh + left_then later) (after_merge s c own_low (Merge low high) answer)
 merge_onto c s low high own_low fresh later answer sound pair is kind =

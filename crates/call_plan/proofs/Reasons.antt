@@ -1,5 +1,5 @@
 -- The reasons of each point to which a call comes, and of its answer.
-use Rattle.call_plan.proofs.Words.{rules, ◌≡◌, ℕ, ◌+◌, ◌-◌, ◌<◌, ◌*◌, ◌^◌, ◌⊎◌, inl, inr, Bool, true, false, not, max, List, [], ◌∷◌, ◌++◌, Option, None, Some, refl, sym, ◌∙◌, ap, subst, arith, nat_lt, append_assoc, Contains, cond_both, ltb-true, not-true, not-false, nat_tests, step_of, after_cut, after_commit, after_grow, Request, Malloc, Memalign, Free, FreeForeign, Publish, Take, Item, Replied, Told, Starved, Refused, BadAnswer, NotHeld, aligned_for, class_for, held_at, hit, Wish, Then, Batches, Visiting, Change, Stops, Visits, Leaves, TurnPoint, Filling, Looking, Landing, Finding, Taking, Offering, Advancing, Changing, Making, Resetting, Destroying, Owning, AskPoint, Skipping, Trimming, Growing, Paring, Needing, Granting, Committing, Merging, Easing, Returning, Decommitting, Forcing, Point, Turns, Asks, Tells, Next, Go, Over, Gone, More, Ends, Stage, Refuses, Reply, NoArena, Nothing, Noted, Taken, Took, Cut, Whole, Refuse, Bad, Grown, Landed, Regions, Owned, Space, Span, Why, Sound, AskFacts, Held, DeskFacts, answered_span, alloc_of, ask_at, done_at, op_at, is_marked, starved, whole_chunks, step, turn_replied, told, commit, trim, put_next, took_over, begin, begin_free, begin_get, begin_malloc, begin_memalign, begin_publish, begin_stage, is_alignment, page_align, small_hit, step_next, wish_for, with_found, extent, extent_of, NothingFits, WasGranted, IsNeeded, IsWishOf, RegionCause, GivenCause, CauseIn, Came, AllCame, AnswersHaveCauses, Visit, visit_gives, visited, DoneCause, TakenBelow, FullCause, Empties, TellsTime, ◌==◌, cond, Finished, Giving, Widening, Narrowing, Moving, Cutting, Extending, Sparing, Backing, Joining, Move, Resize, Realloc, behind, spare, extend, got, gives, get, share, gaining, hitting, reclassing, resizing, taking_place, held_region, desk_turned, desk_told, desk_fed, desk_moved, desk_resized, desk_realloced, move_stage, are_large, resize_to, resize_at, begin_desk, begin_resize, begin_realloc, gave, eqb-true, run, sharing, landed_behind}
+use Rattle.call_plan.proofs.Words.{rules, ◌≡◌, ℕ, ◌+◌, ◌-◌, ◌<◌, ◌*◌, ◌^◌, ◌⊎◌, inl, inr, Bool, true, false, not, max, List, [], ◌∷◌, ◌++◌, Option, None, Some, refl, sym, ◌∙◌, ap, subst, arith, nat_lt, append_assoc, Contains, cond_both, ltb-true, not-true, not-false, nat_tests, step_of, after_cut, after_commit, after_grow, Request, Malloc, Memalign, Free, FreeForeign, Publish, Take, Item, Replied, Told, Starved, Refused, BadAnswer, NotHeld, aligned_for, class_for, held_at, hit, Wish, AfterFlight, Batches, Visiting, Change, Stops, Visits, Leaves, TurnPoint, Filling, Looking, Landing, Finding, Taking, Offering, Advancing, Changing, Making, Resetting, Destroying, Owning, AskPoint, Skipping, Trimming, Growing, SplittingGrown, GrowingExactly, SplittingExact, Committing, Merging, PurgingLazily, Returning, Decommitting, Forcing, Point, Turns, Asks, Tells, Next, Go, InArena, NotLive, NextBatch, Ends, Stage, Refuses, Reply, NoArena, Nothing, Noted, Taken, Took, Cut, Whole, Refuse, Bad, Grown, Landed, Regions, Owned, Space, Span, Why, Sound, AskFacts, Held, DeskFacts, answered_span, alloc_of, ask_at, done_at, op_at, is_marked, starved, whole_chunks, step, turn_replied, told, commit, trim, put_next, took_over, begin, begin_free, begin_get, begin_malloc, begin_memalign, begin_publish, begin_stage, is_alignment, page_align, small_hit, step_next, wish_for, with_found, extent, extent_of, NothingFits, WasGranted, IsNeeded, IsWishOf, RegionCause, GivenCause, CauseIn, Came, AllCame, AnswersHaveCauses, Visit, visit_gives, visited, DoneCause, TakenBelow, FullCause, Empties, TellsTime, ◌==◌, cond, Finished, Giving, Widening, Narrowing, Moving, Cutting, Extending, Sparing, Backing, Joining, Move, Resize, Realloc, behind, spare, extend, got, gives, get, share, gaining, hitting, reclassing, resizing, taking_place, held_region, desk_turned, desk_told, desk_fed, desk_moved, desk_resized, desk_realloced, move_stage, are_large, resize_to, resize_at, begin_desk, begin_resize, begin_realloc, gave, eqb-true, run, sharing, landed_behind}
 use Rattle.call_plan.specs.Causes.{CauseOf}
 use Rattle.call_plan.specs.Desks.{meant, ready}
 use Rattle.call_plan.specs.Words.{Answered, Ok, Refused, BadAnswer, TooLarge, BadAlign, NotHeld, NoSuchArena, Busy, NoMemory, ArenasFull, Automatic, NoCache, CachesFull}
@@ -47,7 +47,7 @@ module _ (desk : DeskFacts) where
   abbrev pub ResizeWhy : Request → DeskFacts → Resize → Type 0
   ResizeWhy request now resize = MoveWhy request now resize.class × HandWhy request now.hand
 
-  abbrev pub ThenWhy : Request → List Item → DeskFacts → Then → Type 0
+  abbrev pub ThenWhy : Request → List Item → DeskFacts → AfterFlight → Type 0
   ThenWhy request items now Batches = EndWhy request items now
   ThenWhy request items now (Visiting visit left) = VisitWhy request items visit
   ThenWhy request items now (Moving class) = MoveWhy request now class
@@ -88,12 +88,12 @@ module _ (desk : DeskFacts) where
   AskWhy request items now (Skipping wish span b skip) = Had request items wish span b
   AskWhy request items now (Trimming wish span b) = Had request items wish span b
   AskWhy request items now (Growing wish chunks) = IsWishOf request wish × NothingFits items
-  AskWhy request items now (Paring wish span b) = Had request items wish span b
-  AskWhy request items now (Needing wish) = IsWishOf request wish × NothingFits items
-  AskWhy request items now (Granting wish span b) = Had request items wish span b × WasGranted wish items span
+  AskWhy request items now (SplittingGrown wish span b) = Had request items wish span b
+  AskWhy request items now (GrowingExactly wish) = IsWishOf request wish × NothingFits items
+  AskWhy request items now (SplittingExact wish span b) = Had request items wish span b × WasGranted wish items span
   AskWhy request items now (Committing wish span) = Had request items wish span false
   AskWhy request items now (Merging low high own_low fresh later) = ThenWhy request items now later
-  AskWhy request items now (Easing span later) = ThenWhy request items now later
+  AskWhy request items now (PurgingLazily span later) = ThenWhy request items now later
   AskWhy request items now (Returning span later) = ThenWhy request items now later
   AskWhy request items now (Decommitting span later) = ThenWhy request items now later
   AskWhy request items now (Forcing span later) = ThenWhy request items now later
@@ -118,10 +118,10 @@ module _ (desk : DeskFacts) where
 
   abbrev pub NextWhy : Request → List Item → DeskFacts → Next → Type 0
   NextWhy request items now (Go point) = PointWhy request items now point
-  NextWhy request items now (Over index point) = PointWhy request items now point
-  NextWhy request items now Gone = Contains items (Replied NoArena)
+  NextWhy request items now (InArena index point) = PointWhy request items now point
+  NextWhy request items now NotLive = Contains items (Replied NoArena)
   NextWhy request items now (Ends answer) = CauseIn desk request items answer
-  NextWhy request items now More = EndWhy request items now
+  NextWhy request items now NextBatch = EndWhy request items now
   NextWhy request items now (Move class) = MoveWhy request now class
   NextWhy request items now next = Unit {0}
 
@@ -140,7 +140,7 @@ module _ (desk : DeskFacts) where
   visited_why : (request : Request) (items : List Item) (now : DeskFacts) (visit : Visit) → VisitWhy request items visit → NextWhy request items now (visited visit)
   visited_why request items now visit why = grind arith
 
-  then_more : (request : Request) (items : List Item) (now : DeskFacts) (item : Item) (later : Then) → ThenWhy request items now later → ThenWhy request (items ++ item ∷ []) now later
+  then_more : (request : Request) (items : List Item) (now : DeskFacts) (item : Item) (later : AfterFlight) → ThenWhy request items now later → ThenWhy request (items ++ item ∷ []) now later
   then_more request items now item Batches why = given_more request items item (gives request now) why
   then_more request items now item (Visiting visit left) why = visit_more request items item visit why
   then_more request items now item (Moving class) why = why
@@ -168,7 +168,7 @@ module _ (desk : DeskFacts) where
   reclassed_why : (request : Request) (items : List Item) (now : DeskFacts) (resize : Resize) → ResizeWhy request now resize → EndWhy request items (reclassing resize.class now)
   reclassed_why request items now resize why = grind arith
 
-  put_why : (request : Request) (items : List Item) (now : DeskFacts) (later : Then) (next : Option Span) → ThenWhy request items now later → NextWhy request items now (put_next later next)
+  put_why : (request : Request) (items : List Item) (now : DeskFacts) (later : AfterFlight) (next : Option Span) → ThenWhy request items now later → NextWhy request items now (put_next later next)
   put_why request items now later next why = grind (arith, nat_tests)
 
   -- a region that landed, or was free in a slab, is of the class of the request
@@ -296,7 +296,7 @@ module _ (desk : DeskFacts) where
       }
 
   -- what follows has its reasons still
-  heard_more : (request : Request) (items earlier : List Item) (now : DeskFacts) (asked : AskFacts) (reply : Reply) (later : Then) → items ≡ earlier ++ Told asked ∷ [] → ThenWhy request earlier now later → ThenWhy request (items ++ Replied reply ∷ []) now later
+  heard_more : (request : Request) (items earlier : List Item) (now : DeskFacts) (asked : AskFacts) (reply : Reply) (later : AfterFlight) → items ≡ earlier ++ Told asked ∷ [] → ThenWhy request earlier now later → ThenWhy request (items ++ Replied reply ∷ []) now later
   heard_more request items earlier now asked reply later told why =
       then_more request items now (Replied reply) later (subst (λ (xs : List Item). ThenWhy request xs now later) (sym told) (then_more request earlier now (Told asked) later why))
 
@@ -304,24 +304,24 @@ module _ (desk : DeskFacts) where
       NextWhy request (items ++ Replied reply ∷ []) (desk_told now point reply) (told point asked reply)
   told_why request items now c (Skipping wish span b skip) asked (Cut high) why came = trim_why request _ now wish high b (cut_had request items why.earlier asked wish span high b why.told why.why)
   told_why request items now c (Trimming wish span b) asked (Cut low) why came = commit_why request _ now wish low b (cut_had request items why.earlier asked wish span low b why.told why.why)
-  told_why request items now c (Paring wish span b) asked (Cut low) why came = commit_why request _ now wish low b (cut_had request items why.earlier asked wish span low b why.told why.why)
+  told_why request items now c (SplittingGrown wish span b) asked (Cut low) why came = commit_why request _ now wish low b (cut_had request items why.earlier asked wish span low b why.told why.why)
   told_why request items now c (Growing wish chunks) asked Refuse why came =
       (why.why.0, fits_more items (Replied Refuse) (subst NothingFits (sym why.told) (fits_more why.earlier (Told asked) why.why.1)))
   told_why request items now c (Growing wish chunks) asked (Bad reason) why (s, sound, found, replied) = bad_why request items now (Growing wish chunks) asked wish (chunks * 512) reason why.why.0 why refl s sound c found replied
   told_why request items now c (Growing wish chunks) asked (Grown span b) why came = (why.why.0, extent_next items (Replied (Grown span b)) (extent_of items) refl)
-  told_why request items now c (Needing wish) asked Refuse why (s, sound, found, replied) =
-      refused_why request items now (Needing wish) asked wish Refuse why.why.0 why
+  told_why request items now c (GrowingExactly wish) asked Refuse why (s, sound, found, replied) =
+      refused_why request items now (GrowingExactly wish) asked wish Refuse why.why.0 why
       (grow_refused s c found (whole_chunks wish.pages) (max 512 wish.align) asked.answer (subst (λ a. Refuse ≡ (after_grow s c found a asked.answer).reply) why.is replied)) (refl, refl, why.why.1)
-  told_why request items now c (Needing wish) asked (Bad reason) why (s, sound, found, replied) = bad_why request items now (Needing wish) asked wish (whole_chunks wish.pages) reason why.why.0 why refl s sound c found replied
-  told_why request items now c (Needing wish) asked (Grown span b) why (s, sound, found, replied) =
+  told_why request items now c (GrowingExactly wish) asked (Bad reason) why (s, sound, found, replied) = bad_why request items now (GrowingExactly wish) asked wish (whole_chunks wish.pages) reason why.why.0 why refl s sound c found replied
+  told_why request items now c (GrowingExactly wish) asked (Grown span b) why (s, sound, found, replied) =
       let had : Had request (items ++ Replied (Grown span b) ∷ []) wish span b = (why.why.0, extent_next items (Replied (Grown span b)) (extent_of items) refl) in
       let placed = grow_grown s c found (whole_chunks wish.pages) (max 512 wish.align) asked.answer span b (subst (λ a. Grown span b ≡ (after_grow s c found a asked.answer).reply) why.is replied) in
       cond_both (nat_lt wish.pages span.pages) _ _ (NextWhy request _ now)
-      (λ h. (had, record { asked = asked; told = asked_in request items now (Needing wish) asked (Grown span b) why; exact = why.is; is_committed = b; zeroed = placed.0; placed = placed.1; replied = last_in items (Replied (Grown span b)); more = ltb-true _ _ h }))
+      (λ h. (had, record { asked = asked; told = asked_in request items now (GrowingExactly wish) asked (Grown span b) why; exact = why.is; is_committed = b; zeroed = placed.0; placed = placed.1; replied = last_in items (Replied (Grown span b)); more = ltb-true _ _ h }))
       (λ h. commit_why request _ now wish span b had)
-  told_why request items now c (Granting wish span b) asked (Cut low) why came = commit_why request _ now wish low b (cut_had request items why.earlier asked wish span low b why.told why.why.0)
-  told_why request items now c (Granting wish span b) asked Whole why (s, sound, found, replied) =
-      refused_why request items now (Granting wish span b) asked wish Whole why.why.0.0 why
+  told_why request items now c (SplittingExact wish span b) asked (Cut low) why came = commit_why request _ now wish low b (cut_had request items why.earlier asked wish span low b why.told why.why.0)
+  told_why request items now c (SplittingExact wish span b) asked Whole why (s, sound, found, replied) =
+      refused_why request items now (SplittingExact wish span b) asked wish Whole why.why.0.0 why
       (cut_whole s c true span wish.pages asked.answer (subst (λ a. Whole ≡ (after_cut s c true a asked.answer).reply) why.is replied)) (refl, why.why.1)
   told_why request items now c (Committing wish span) asked Whole why (s, sound, found, replied) =
       refused_why request items now (Committing wish span) asked wish Whole why.why.0 why
@@ -340,7 +340,7 @@ module _ (desk : DeskFacts) where
   told_why request items now c (Joining resize span) asked Whole why came = why.why.0
   told_why request items now c point asked NoArena why came = tt
   told_why request items now c point asked reply why came =
-      let more = λ (later : Then). heard_more request items why.earlier now asked reply later why.told in
+      let more = λ (later : AfterFlight). heard_more request items why.earlier now asked reply later why.told in
       first_of (search (rules, put_why, whole_fits), grind (arith, nat_tests))
 
   -- ---- the fold

@@ -1,5 +1,5 @@
 -- What stands after each refused ask.
-use Rattle.call_plan.proofs.Words.{◌≡◌, ℕ, ◌+◌, Bool, true, false, cond, Option, Some, ◌∙◌, ap, subst, arith, find, lost, won, is_flight_at, Stepped, whole_at, apart_at, next_flight, step_of, is_regranted, Replied, Refused, AskPoint, Skipping, Trimming, Growing, Paring, Needing, Granting, Committing, Merging, Easing, Returning, Decommitting, Forcing, Asks, Next, Ends, Refuses, Reply, Whole, Joined, Kept, Abandoned, Part, Space, Span, Sound, mine, AskFacts, ask_at, done_at, need_chunks, told, Alone, Flies, Idle, KnowsAsk, Keeps, flights_of, left_ask, stages_ask, with_found, AfterDalloc, AfterRefusal, HoldsExtent, Rests, RefusalsStand, Cutting, Extending, Sparing, Backing, Joining, move}
+use Rattle.call_plan.proofs.Words.{◌≡◌, ℕ, ◌+◌, Bool, true, false, cond, Option, Some, ◌∙◌, ap, subst, arith, find, lost, won, is_flight_at, Stepped, whole_at, apart_at, next_flight, step_of, is_regranted, Replied, Refused, AskPoint, Skipping, Trimming, Growing, SplittingGrown, GrowingExactly, SplittingExact, Committing, Merging, PurgingLazily, Returning, Decommitting, Forcing, Asks, Next, Ends, Refuses, Reply, Whole, Joined, Kept, Abandoned, Part, Space, Span, Sound, mine, AskFacts, ask_at, done_at, need_chunks, told, Alone, Flies, Idle, KnowsAsk, Keeps, flights_of, left_ask, stages_ask, with_found, AfterDalloc, AfterRefusal, HoldsExtent, Rests, RefusalsStand, Cutting, Extending, Sparing, Backing, Joining, move}
 use Rattle.call_plan.proofs.Getting.{alone_found}
 use Rattle.call_plan.proofs.Putting.{found_at}
 use Rattle.call_plan.proofs.Rooms.{flown}
@@ -36,9 +36,9 @@ module _ (c : ℕ) (s t : Space) (asked : AskFacts) (reply : Reply) (found : Opt
   stands_at (Skipping wish span b skip) (gets, alone, some, holds) r flew keeps = rests c t _ _ _ (need_chunks wish) (ap (told (Skipping wish span b skip) asked) (r ∙ whole_told c s span b alone)) keeps (λ k. k.0.0.1)
   stands_at (Trimming wish span b) (gets, alone, more) r flew keeps = rests c t _ _ _ (need_chunks wish) (ap (told (Trimming wish span b) asked) (r ∙ whole_told c s span b alone)) keeps (λ k. k.0.0.1)
   stands_at (Growing wish chunks) knows r flew keeps = rests c t _ _ _ (need_chunks wish) (ap (told (Growing wish chunks) asked) r) keeps (λ k. k.0.0.1)
-  stands_at (Paring wish span b) (gets, alone, more) r flew keeps = rests c t _ _ _ (need_chunks wish) (ap (told (Paring wish span b) asked) (r ∙ whole_told c s span b alone)) keeps (λ k. k.0.0.1)
-  stands_at (Needing wish) knows r flew keeps = rests c t _ _ _ (Ends (Refused asked)) (ap (told (Needing wish) asked) r) keeps (λ k. k)
-  stands_at (Granting wish span b) (gets, alone, more) r flew keeps = rests c t _ _ _ (Ends (Refused asked)) (ap (told (Granting wish span b) asked) (r ∙ whole_told c s span b alone)) keeps (λ k. k)
+  stands_at (SplittingGrown wish span b) (gets, alone, more) r flew keeps = rests c t _ _ _ (need_chunks wish) (ap (told (SplittingGrown wish span b) asked) (r ∙ whole_told c s span b alone)) keeps (λ k. k.0.0.1)
+  stands_at (GrowingExactly wish) knows r flew keeps = rests c t _ _ _ (Ends (Refused asked)) (ap (told (GrowingExactly wish) asked) r) keeps (λ k. k)
+  stands_at (SplittingExact wish span b) (gets, alone, more) r flew keeps = rests c t _ _ _ (Ends (Refused asked)) (ap (told (SplittingExact wish span b) asked) (r ∙ whole_told c s span b alone)) keeps (λ k. k)
   stands_at (Committing wish span) (gets, alone, pages) r flew keeps = rests c t _ _ _ (Ends (Refused asked)) (ap (told (Committing wish span) asked) (r ∙ whole_told c s span false alone)) keeps (λ k. k)
   stands_at (Merging low high true fresh later) (pair, is) r flew keeps =
       let at = found_at c s low pair.low_part sound pair.low_found in
@@ -50,8 +50,8 @@ module _ (c : ℕ) (s t : Space) (asked : AskFacts) (reply : Reply) (found : Opt
       let to = found_at c s high pair.high_part sound pair.high_found in
       let joined : reply ≡ Joined high = r ∙ (λ i. (apart_at s false (at.found i) (to.found i)).reply) ∙ ap Joined to.spans in
       holds c t _ _ _ high _ _ _ (ap (told (Merging low high false fresh later) asked) joined) (omega (arith, subst (Flew (Merging low high false fresh later)) joined flew)) keeps (λ k. k.0.1)
-  stands_at (Easing span later) knows r flew keeps =
-      holds c t _ _ _ span _ _ _ (ap (told (Easing span later) asked) r) (omega (arith, subst (Flew (Easing span later)) r flew)) keeps (λ k. k.0.0)
+  stands_at (PurgingLazily span later) knows r flew keeps =
+      holds c t _ _ _ span _ _ _ (ap (told (PurgingLazily span later) asked) r) (omega (arith, subst (Flew (PurgingLazily span later)) r flew)) keeps (λ k. k.0.0)
   stands_at (Returning span later) knows r flew keeps = by (is_regranted found span s.parts) (r ∙ chosen_reply (is_regranted found span s.parts) _ _)
     where
       by : (v : Bool) → reply ≡ cond v (Abandoned (next_flight c s.parts)) Kept → AfterDalloc c s t v span later (told (Returning span later) asked reply)

@@ -1,5 +1,5 @@
 -- Whoever has the room that is needed at a point has it wherever the call goes.
-use Rattle.call_plan.proofs.Words.{◌≡◌, ℕ, ◌+◌, ◌-◌, ◌*◌, ◌<◌, ◌≤◌, Bool, true, false, cond, cond_both, find, max, Option, None, Some, refl, sym, ◌∙◌, ap, subst, arith, length, sum_by, nat_tests, length-filter, is_flight, flight, lost, won, op_stands, step_of, op_keeps, Replied, Told, Starved, Op, Reply, Space, Sound, Mine, mine, AskFacts, same_span, Span, Part, Stepped, Settled, Purge, Then, put_at, put_beside, neighbour, is_purged, is_flight_at, is_listed, rest_of, Dirty, both_true, TurnPoint, Giving, Finding, AskPoint, Turns, Asks, Tells, Next, Go, is_marked, op_at, done_at, starved, turn_replied, told, Idle, KnowsTurn, Keeps, left, stages, with_found, empties, flying, needed_ask, needed_next, needed_turn, room_then, RoomsSuffice, Cutting, Extending, KnowsAsk}
+use Rattle.call_plan.proofs.Words.{◌≡◌, ℕ, ◌+◌, ◌-◌, ◌*◌, ◌<◌, ◌≤◌, Bool, true, false, cond, cond_both, find, max, Option, None, Some, refl, sym, ◌∙◌, ap, subst, arith, length, sum_by, nat_tests, length-filter, is_flight, flight, lost, won, op_stands, step_of, op_keeps, Replied, Told, Starved, Op, Reply, Space, Sound, Mine, mine, AskFacts, same_span, Span, Part, Stepped, Settled, Purge, AfterFlight, put_at, put_beside, neighbour, is_purged, is_flight_at, is_listed, rest_of, Dirty, both_true, TurnPoint, Giving, Finding, AskPoint, Turns, Asks, Tells, Next, Go, is_marked, op_at, done_at, starved, turn_replied, told, Idle, KnowsTurn, Keeps, left, stages, with_found, empties, flying, needed_ask, needed_next, needed_turn, room_then, RoomsSuffice, Cutting, Extending, KnowsAsk}
 use Rattle.call_plan.proofs.Lists.{filter-fewer}
 use Rattle.call_plan.proofs.Own.{flight_found}
 use Rattle.call_plan.proofs.Standing.{wants-stand}
@@ -46,7 +46,7 @@ told_spends : (f g : ℕ) (point : AskPoint) (asked : AskFacts) (found : Option 
 told_spends f g point asked found c s reply e has flies = grind (arith, nat_tests)
 
 -- an extent that was purged belongs to the dirty ones no more, of which alone a look replies a purge
-beside_fresh : (c : ℕ) (s : Space) (own : Span) (tries : ℕ) (fresh : Bool) (later : Then) (p : Part) (other : Option Part) → Settled fresh p → IsFresh (Finding own tries fresh later) (put_beside s c p other).reply
+beside_fresh : (c : ℕ) (s : Space) (own : Span) (tries : ℕ) (fresh : Bool) (later : AfterFlight) (p : Part) (other : Option Part) → Settled fresh p → IsFresh (Finding own tries fresh later) (put_beside s c p other).reply
 beside_fresh c s own tries true later p other settled = grind (arith, nat_tests)
 beside_fresh c s own tries false later p (Some other) settled = tt
 beside_fresh c s own tries false later p None settled =

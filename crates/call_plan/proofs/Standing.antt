@@ -1,5 +1,5 @@
 -- Every turn that a call wants may stand.
-use Rattle.call_plan.proofs.Words.{filter, ◌≡◌, ◌≢◌, ℕ, ◌*◌, ◌<◌, ◌≤◌, ◌==◌, ◌&&◌, ◌||◌, ◌+◌, Bool, true, false, List, [], ◌∷◌, Option, None, Some, refl, sym, ◌∙◌, ap, subst, arith, length, lt-ltb, le-leb, eq-eqb, list_any, list_all, beq, and_assoc, length-filter, Offered, CutDone, GrowDone, Region, is_flight, is_held_by, reset_stands, is_offer, op_stands, is_live, is_yes_or_no, is_range_or_no, holds_at, heard_in, Wish, TurnPoint, Filling, Looking, Landing, Giving, Finding, Taking, Offering, Advancing, Changing, Making, Resetting, Destroying, Dooming, Publishing, Owning, Widening, Narrowing, AskPoint, Skipping, Trimming, Growing, Paring, Needing, Granting, Committing, Merging, Easing, Returning, Decommitting, Forcing, Cutting, Extending, Sparing, Backing, Joining, Turns, Asks, Tells, Split, Answer, Placed, Done, Space, Part, Span, Sound, mine, AskFacts, nat_lt, pages_at, same_span, AnswersTo, done_at, op_at, alloc_of, whole_chunks, Idle, Alone, HasOffered, Gets, IsResize, Widens, Narrows, Resize, own_span, lacks, Mine, is_held_of, KnowsAsk, KnowsTurn, Heard, is_held, is_served, in_flight, with_found, WantsStand}
+use Rattle.call_plan.proofs.Words.{filter, ◌≡◌, ◌≢◌, ℕ, ◌*◌, ◌<◌, ◌≤◌, ◌==◌, ◌&&◌, ◌||◌, ◌+◌, Bool, true, false, List, [], ◌∷◌, Option, None, Some, refl, sym, ◌∙◌, ap, subst, arith, length, lt-ltb, le-leb, eq-eqb, list_any, list_all, beq, and_assoc, length-filter, Offered, CutDone, GrowDone, Region, is_flight, is_held_by, reset_stands, is_offer, op_stands, is_live, is_yes_or_no, is_range_or_no, holds_at, heard_in, Wish, TurnPoint, Filling, Looking, Landing, Giving, Finding, Taking, Offering, Advancing, Changing, Making, Resetting, Destroying, Dooming, Publishing, Owning, Widening, Narrowing, AskPoint, Skipping, Trimming, Growing, SplittingGrown, GrowingExactly, SplittingExact, Committing, Merging, PurgingLazily, Returning, Decommitting, Forcing, Cutting, Extending, Sparing, Backing, Joining, Turns, Asks, Tells, Split, Answer, Placed, Done, Space, Part, Span, Sound, mine, AskFacts, nat_lt, pages_at, same_span, AnswersTo, done_at, op_at, alloc_of, whole_chunks, Idle, Alone, HasOffered, Gets, IsResize, Widens, Narrows, Resize, own_span, lacks, Mine, is_held_of, KnowsAsk, KnowsTurn, Heard, is_held, is_served, in_flight, with_found, WantsStand}
 use Rattle.std.specs.List.{count_by}
 use Rattle.call_plan.proofs.Lists.{any-both, any_some, none-any}
 use Rattle.call_plan.proofs.Own.{flight_found, region_found, served, live_where}
@@ -135,17 +135,17 @@ ask_stands c s (Trimming wish span b) asked found sound (gets, alone, more) (is,
     cut_stands_at c s true asked span wish.pages b found sound alone (wish_some wish gets.is) more is kind
 ask_stands c s (Growing wish chunks) asked found sound (gets, idle, more) (is, kind) =
     alloc_stands_at c s asked wish (chunks * 512) found sound gets (omega (arith, more)) is kind
-ask_stands c s (Paring wish span b) asked found sound (gets, alone, more) (is, kind) =
+ask_stands c s (SplittingGrown wish span b) asked found sound (gets, alone, more) (is, kind) =
     cut_stands_at c s true asked span wish.pages b found sound alone (wish_some wish gets.is) more is kind
-ask_stands c s (Needing wish) asked found sound (gets, idle) (is, kind) =
+ask_stands c s (GrowingExactly wish) asked found sound (gets, idle) (is, kind) =
     alloc_stands_at c s asked wish (whole_chunks wish.pages) found sound gets (omega (arith, wish_some wish gets.is)) is kind
-ask_stands c s (Granting wish span b) asked found sound (gets, alone, more) (is, kind) =
+ask_stands c s (SplittingExact wish span b) asked found sound (gets, alone, more) (is, kind) =
     cut_stands_at c s true asked span wish.pages b found sound alone (wish_some wish gets.is) more is kind
 ask_stands c s (Committing wish span) asked found sound (gets, alone, pages) (is, kind) =
     rw (live_alone c s span false sound alone, is, plain_answer asked.answer kind, alone_found c s span false alone, alone.committed) refl
 ask_stands c s (Merging low high own_low fresh later) asked found sound (pair, then_is) (is, kind) =
     rw (live_found c s low pair.low_part sound pair.low_found, is, plain_answer asked.answer kind, eq-eqb _ _ pair.side_by_side, flight_found c low s.parts, pair.low_found, flight_found c high s.parts, pair.high_found, pair.alike) refl
-ask_stands c s (Easing span later) asked found sound (flies, then_is) (is, kind) =
+ask_stands c s (PurgingLazily span later) asked found sound (flies, then_is) (is, kind) =
     rw (live_found c s span flies.part sound flies.found, is, plain_answer asked.answer kind, flight_found c span s.parts, flies.found, flies.is) refl
 ask_stands c s (Returning span later) asked found sound (has, then_is) (is, kind) =
     rw (live_offered c s span sound has, is, plain_answer asked.answer kind, offer_stands_at c s span has) refl

@@ -1,5 +1,5 @@
 -- Whatever comes of what a call wants leads on.
-use Rattle.call_plan.proofs.Words.{rules, add-zero, append-nil, inr, filter, ◌≡◌, ℕ, ◌+◌, ◌-◌, ◌*◌, Bool, true, false, not, cond, List, [], ◌∷◌, Option, None, Some, refl, sym, ◌∙◌, ap, subst, arith, max, length, find, nat_tests, is_active, is_listed, is_flight, begins_at, moved_to, turned_parts, turned_in_order, turned_sum, nothing_sum, filter_nothing, sum_by, flight, Stepped, replaced, after_advance, after_set, setting_stands, after_reset, after_destroy, doom_at, step_of, after_cut, put_down-nobody, itself, Replied, Told, Starved, Split, Answer, Reply, Doomed, Rest, ToDirty, ToRetained, Setting, Space, Part, Span, Sound, mine, AskFacts, AnswersTo, Wish, Change, TurnPoint, Filling, Looking, Landing, Giving, Finding, Taking, Offering, Advancing, Changing, Making, Resetting, Destroying, Dooming, Publishing, Owning, Widening, Narrowing, AskPoint, Skipping, Trimming, Growing, Paring, Needing, Granting, Committing, Merging, Easing, Returning, Decommitting, Forcing, Cutting, Extending, Sparing, Backing, Joining, Turns, Asks, Tells, Next, Go, ask_at, turn_replied, starved, is_marked, told, done_at, op_at, whole_chunks, skipped, trimmed, grown, needed, grant_split, committed, Idle, Alone, Gets, KnowsAsk, KnowsTurn, Heard, IsChange, is_of_arena, with_found, Keeps, stages_turn, stages_ask, stages_change, left, left_ask, flights_of, StepsKeep}
+use Rattle.call_plan.proofs.Words.{rules, add-zero, append-nil, inr, filter, ◌≡◌, ℕ, ◌+◌, ◌-◌, ◌*◌, Bool, true, false, not, cond, List, [], ◌∷◌, Option, None, Some, refl, sym, ◌∙◌, ap, subst, arith, max, length, find, nat_tests, is_active, is_listed, is_flight, begins_at, moved_to, turned_parts, turned_in_order, turned_sum, nothing_sum, filter_nothing, sum_by, flight, Stepped, replaced, after_advance, after_set, setting_stands, after_reset, after_destroy, doom_at, step_of, after_cut, put_down-nobody, itself, Replied, Told, Starved, Split, Answer, Reply, Doomed, Rest, ToDirty, ToRetained, Setting, Space, Part, Span, Sound, mine, AskFacts, AnswersTo, Wish, Change, TurnPoint, Filling, Looking, Landing, Giving, Finding, Taking, Offering, Advancing, Changing, Making, Resetting, Destroying, Dooming, Publishing, Owning, Widening, Narrowing, AskPoint, Skipping, Trimming, Growing, SplittingGrown, GrowingExactly, SplittingExact, Committing, Merging, PurgingLazily, Returning, Decommitting, Forcing, Cutting, Extending, Sparing, Backing, Joining, Turns, Asks, Tells, Next, Go, ask_at, turn_replied, starved, is_marked, told, done_at, op_at, whole_chunks, skipped, trimmed, grown, needed, grant_split, committed, Idle, Alone, Gets, KnowsAsk, KnowsTurn, Heard, IsChange, is_of_arena, with_found, Keeps, stages_turn, stages_ask, stages_change, left, left_ask, flights_of, StepsKeep}
 use Rattle.call_plan.proofs.Lists.{filter-fewer}
 use Rattle.call_plan.proofs.Own.{flight_found}
 use Rattle.call_plan.proofs.Getting.{Onto, kept_span, cut_onto, commit_onto, alloc_onto, look_onto, land_onto, commit_goes, grant_goes, trim_goes, gets_kept, replaced_idle, begins_itself}
@@ -97,14 +97,14 @@ ask_keeps c s (Growing wish chunks) asked found sound (gets, idle, more) kind =
     (λ t e none. (((gets_kept c s t wish gets e.0, none), tt), inr (refl, omega arith)))
     (λ t e none why. none)
     (λ t e span b pages alone. (((gets_kept c s t wish gets e.0, alone, omega (arith, pages, more)), tt), inr (refl, omega arith)))
-ask_keeps c s (Paring wish span b) asked found sound (gets, alone, more) kind = trim_keeps c s wish span b asked.answer gets alone kind
-ask_keeps c s (Needing wish) asked found sound (gets, idle) kind =
-    alloc_onto c s (needed wish (asked_at (Needing wish) asked)) 0 6 found None (whole_chunks wish.pages) (max 512 wish.align) asked.answer idle kind
+ask_keeps c s (SplittingGrown wish span b) asked found sound (gets, alone, more) kind = trim_keeps c s wish span b asked.answer gets alone kind
+ask_keeps c s (GrowingExactly wish) asked found sound (gets, idle) kind =
+    alloc_onto c s (needed wish (asked_at (GrowingExactly wish) asked)) 0 6 found None (whole_chunks wish.pages) (max 512 wish.align) asked.answer idle kind
     (λ t e none. none)
     (λ t e none why. none)
     (λ t e span b pages alone. grant_goes c t 6 wish span b (gets_kept c s t wish gets e.0) alone (omega (arith, pages)) (omega arith))
-ask_keeps c s (Granting wish span b) asked found sound (gets, alone, more) kind =
-    cut_onto c s (grant_split wish b (asked_at (Granting wish span b) asked)) 0 4 true span wish.pages b asked.answer alone kind
+ask_keeps c s (SplittingExact wish span b) asked found sound (gets, alone, more) kind =
+    cut_onto c s (grant_split wish b (asked_at (SplittingExact wish span b) asked)) 0 4 true span wish.pages b asked.answer alone kind
     (λ t e kept. commit_goes c t 4 wish (kept_span true wish.pages span) b (gets_kept c s t wish gets e.0) kept refl (omega arith))
     (λ t e idle. idle)
 ask_keeps c s (Committing wish span) asked found sound (gets, alone, pages) kind =
@@ -112,7 +112,7 @@ ask_keeps c s (Committing wish span) asked found sound (gets, alone, pages) kind
     (λ t e noted. ((gets_kept c s t wish gets e.0, noted, pages), inr (refl, omega arith)))
     (λ t e idle. idle)
 ask_keeps c s (Merging low high own_low fresh later) asked found sound (pair, then_is) kind = merge_onto c s low high own_low fresh later asked.answer sound pair then_is kind
-ask_keeps c s (Easing span later) asked found sound (flies, then_is) kind = lazy_onto c s span later asked.answer sound flies then_is kind
+ask_keeps c s (PurgingLazily span later) asked found sound (flies, then_is) kind = lazy_onto c s span later asked.answer sound flies then_is kind
 ask_keeps c s (Returning span later) asked found sound (has, then_is) kind = return_onto c s span later found asked.answer sound has then_is kind
 ask_keeps c s (Decommitting span later) asked found sound (flies, then_is) kind = decommit_onto c s span later asked.answer sound flies then_is kind
 ask_keeps c s (Forcing span later) asked found sound (flies, then_is) kind = forced_onto c s span later flies then_is

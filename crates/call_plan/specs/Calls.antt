@@ -1,6 +1,6 @@
 -- A call as contracts see it.
 use Rattle.std.specs.Prelude.{◌≤◌, ◌+◌, ℕ, Bool, true, false, ◌||◌, Option, Some, is_some, if◌then◌else◌, not}
-use Rattle.call_plan.specs.Words.{Request, Malloc, Memalign, Free, FreeForeign, Publish, Take, Realloc, MallocIn, FreeIn, NewCache, Region, Finished, Ok, Then, Moving, TurnPoint, Filling, Looking, Landing, Finding, Offering, Owning, Widening, Narrowing, AskPoint, Merging, Easing, Returning, Decommitting, Forcing, Point, Turns, Asks, Tells, Next, Go, Ends, Stage, DeskFacts}
+use Rattle.call_plan.specs.Words.{Request, Malloc, Memalign, Free, FreeForeign, Publish, Take, Realloc, MallocIn, FreeIn, NewCache, Region, Finished, Ok, AfterFlight, Moving, TurnPoint, Filling, Looking, Landing, Finding, Offering, Owning, Widening, Narrowing, AskPoint, Merging, PurgingLazily, Returning, Decommitting, Forcing, Point, Turns, Asks, Tells, Next, Go, Ends, Stage, DeskFacts}
 use Rattle.call_plan.specs.Desks.{flushes}
 use Rattle.call_plan.specs.Points.{IsSizedNext}
 use Rattle.call_plan.specs.Needs.{IsPointOrEnd, named}
@@ -36,7 +36,7 @@ IsCall at = IsPointOrEnd at.next × IsSizedNext at.next
 -- ---- room for a region that the client comes to hold
 
 -- whether a region may come of what follows
-abbrev pub gets_then : Then → Bool
+abbrev pub gets_then : AfterFlight → Bool
 gets_then (Moving class) = true
 gets_then later = false
 
@@ -56,7 +56,7 @@ gets_turn point = false
 -- back, unless a region is got then
 abbrev pub gets_ask : AskPoint → Bool
 gets_ask (Merging low high own_low fresh later) = gets_then later
-gets_ask (Easing span later) = gets_then later
+gets_ask (PurgingLazily span later) = gets_then later
 gets_ask (Returning span later) = gets_then later
 gets_ask (Decommitting span later) = gets_then later
 gets_ask (Forcing span later) = gets_then later

@@ -11,7 +11,7 @@ use Rattle.space_model.specs.Purging.{is_purgeable}
 use Rattle.space_model.specs.Settings.{setting_stands}
 use Rattle.space_model.specs.Step.{may_merge, rises_from}
 use Rattle.call_plan.specs.Words.{ToDirty, ToRetained, Setting, MakeLive, Part, Span, Mine, AskFacts, pages_at, same_span, end_of, most_regions, AnswersTo}
-use Rattle.call_plan.specs.Words.{Wish, Resize, Visit, Then, Batches, Visiting, Moving, Change, Visits, TurnPoint, Filling, Looking, Landing, Giving, Finding, Taking, Offering, Advancing, Changing, Making, Resetting, Destroying, Dooming, Publishing, Owning, Widening, Narrowing, AskPoint, Skipping, Trimming, Growing, Paring, Needing, Granting, Committing, Merging, Easing, Returning, Decommitting, Forcing, Cutting, Extending, Sparing, Backing, Joining, Point, Turns, Asks, Tells}
+use Rattle.call_plan.specs.Words.{Wish, Resize, Visit, AfterFlight, Batches, Visiting, Moving, Change, Visits, TurnPoint, Filling, Looking, Landing, Giving, Finding, Taking, Offering, Advancing, Changing, Making, Resetting, Destroying, Dooming, Publishing, Owning, Widening, Narrowing, AskPoint, Skipping, Trimming, Growing, SplittingGrown, GrowingExactly, SplittingExact, Committing, Merging, PurgingLazily, Returning, Decommitting, Forcing, Cutting, Extending, Sparing, Backing, Joining, Point, Turns, Asks, Tells}
 use Rattle.call_plan.specs.Table.{ask_at, behind, chunks_for, lacks}
 
 -- what a call can wish for: regions of a class in an extent of its pages, at an alignment that is a power of two
@@ -129,7 +129,7 @@ abbrev pub IsVisit : Visit → Type 0
 IsVisit visit = is_purgeable visit.rest ≡ true
 
 -- what follows is in order
-abbrev pub IsThen : Then → Type 0
+abbrev pub IsThen : AfterFlight → Type 0
 IsThen Batches = Unit {0}
 IsThen (Visiting visit left) = IsVisit visit
 IsThen (Moving class) = class < 121
@@ -177,12 +177,12 @@ KnowsAsk m (Skipping wish span is_committed skip) =
     Gets m wish × Alone m span is_committed × (0 < skip) × (skip + wish.pages ≤ span.pages)
 KnowsAsk m (Trimming wish span is_committed) = Gets m wish × Alone m span is_committed × (wish.pages < span.pages)
 KnowsAsk m (Growing wish chunks) = Gets m wish × Idle m × (chunks_for wish.pages < chunks)
-KnowsAsk m (Paring wish span is_committed) = Gets m wish × Alone m span is_committed × (wish.pages < span.pages)
-KnowsAsk m (Needing wish) = Gets m wish × Idle m
-KnowsAsk m (Granting wish span is_committed) = Gets m wish × Alone m span is_committed × (wish.pages < span.pages)
+KnowsAsk m (SplittingGrown wish span is_committed) = Gets m wish × Alone m span is_committed × (wish.pages < span.pages)
+KnowsAsk m (GrowingExactly wish) = Gets m wish × Idle m
+KnowsAsk m (SplittingExact wish span is_committed) = Gets m wish × Alone m span is_committed × (wish.pages < span.pages)
 KnowsAsk m (Committing wish span) = Gets m wish × Alone m span false × (span.pages ≡ wish.pages)
 KnowsAsk m (Merging low high own_low fresh later) = HasPair m low high fresh × IsThen later
-KnowsAsk m (Easing span later) = Flies m span (λ p. rest_of p.state ≡ ToDirty) × IsThen later
+KnowsAsk m (PurgingLazily span later) = Flies m span (λ p. rest_of p.state ≡ ToDirty) × IsThen later
 KnowsAsk m (Returning span later) = HasOffered m span × IsThen later
 KnowsAsk m (Decommitting span later) = Flies m span (λ p. (p.committed ≡ true) × (rest_of p.state ≡ ToRetained)) × IsThen later
 KnowsAsk m (Forcing span later) = Flies m span (λ p. rest_of p.state ≡ ToRetained) × IsThen later

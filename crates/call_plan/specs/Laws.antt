@@ -5,7 +5,7 @@ use Rattle.space_model.specs.Step.{step_of, op_stands}
 use Rattle.space_model.specs.Settings.{is_decay_time}
 use Rattle.space_model.specs.Purging.{is_purgeable}
 use Rattle.call_plan.specs.Words.{Request, Time, Create, HookBox, GrowLimit as SetGrowLimit, Item, Replied, Told, Starved, Op, Space, Sound, Mine, mine, AskFacts, Held, DeskFacts, max_series, AnswersTo, cached_of, held_at, Rest, ToMuzzy}
-use Rattle.call_plan.specs.Words.{Visit, Then, Batches, Visiting, Moving, Change, Stops, Visits, Leaves, TurnPoint, Filling, Looking, Landing, Giving, Finding, Taking, Offering, Advancing, Changing, Making, Resetting, Destroying, Dooming, Widening, Narrowing, AskPoint, Skipping, Trimming, Growing, Paring, Needing, Granting, Committing, Merging, Easing, Returning, Decommitting, Forcing, Cutting, Extending, Sparing, Backing, Joining, Point, Turns, Asks, Tells, Next, Go, Over, More, Move, Ends, Nowhere, Stage}
+use Rattle.call_plan.specs.Words.{Visit, AfterFlight, Batches, Visiting, Moving, Change, Stops, Visits, Leaves, TurnPoint, Filling, Looking, Landing, Giving, Finding, Taking, Offering, Advancing, Changing, Making, Resetting, Destroying, Dooming, Widening, Narrowing, AskPoint, Skipping, Trimming, Growing, SplittingGrown, GrowingExactly, SplittingExact, Committing, Merging, PurgingLazily, Returning, Decommitting, Forcing, Cutting, Extending, Sparing, Backing, Joining, Point, Turns, Asks, Tells, Next, Go, InArena, NextBatch, Move, Ends, Nowhere, Stage}
 use Rattle.call_plan.specs.Table.{Want, WantTurn, WantAsk, want, step, is_marked}
 use Rattle.call_plan.specs.Knows.{Idle, Knows, is_held_of, is_served}
 use Rattle.call_plan.specs.Runs.{begin_stage, desk_led, settle}
@@ -45,7 +45,7 @@ abbrev pub stages_later : Visit → ℕ
 stages_later visit = stages_list visit.rest visit.other
 
 -- those of what follows once the client has nothing in flight
-abbrev pub stages_then : Then → ℕ
+abbrev pub stages_then : AfterFlight → ℕ
 stages_then Batches = 0
 stages_then (Visiting visit left) = stages_later visit
 stages_then (Moving class) = 2
@@ -80,7 +80,7 @@ stages_turn point = 0
 -- those from a point of an ask on
 abbrev pub stages_ask : AskPoint → ℕ
 stages_ask (Merging low high own_low fresh later) = stages_then later
-stages_ask (Easing span later) = stages_then later
+stages_ask (PurgingLazily span later) = stages_then later
 stages_ask (Returning span later) = stages_then later
 stages_ask (Decommitting span later) = stages_then later
 stages_ask (Forcing span later) = stages_then later
@@ -106,7 +106,7 @@ abbrev pub purges_left : Bool → ℕ
 purges_left fresh = if fresh then 16 else 0
 
 -- those of the extents that are still to be visited
-abbrev pub left_then : Then → ℕ
+abbrev pub left_then : AfterFlight → ℕ
 left_then Batches = 0
 left_then (Visiting visit left) = 30 * left
 left_then (Moving class) = 0
@@ -132,12 +132,12 @@ abbrev pub left_ask : ℕ → AskPoint → ℕ
 left_ask flights (Skipping wish span is_committed skip) = 10
 left_ask flights (Trimming wish span is_committed) = 8
 left_ask flights (Growing wish chunks) = 10
-left_ask flights (Paring wish span is_committed) = 8
-left_ask flights (Needing wish) = 6
-left_ask flights (Granting wish span is_committed) = 4
+left_ask flights (SplittingGrown wish span is_committed) = 8
+left_ask flights (GrowingExactly wish) = 6
+left_ask flights (SplittingExact wish span is_committed) = 4
 left_ask flights (Committing wish span) = 2
 left_ask flights (Merging low high own_low fresh later) = 30 * (flights - 2) + (if own_low then 5 else 2) + purges_left fresh + left_then later
-left_ask flights (Easing span later) = 30 * (flights - 1) + 15 + left_then later
+left_ask flights (PurgingLazily span later) = 30 * (flights - 1) + 15 + left_then later
 left_ask flights (Returning span later) = 30 * flights + 12 + left_then later
 left_ask flights (Decommitting span later) = 30 * (flights - 1) + 10 + left_then later
 left_ask flights (Forcing span later) = 30 * (flights - 1) + 8 + left_then later
@@ -176,7 +176,7 @@ IsNearer c t stage bound point = (stages point < stage) ⊎ ((stages point ≡ s
 -- another arena, or where another region is got, the client has nothing in flight
 abbrev pub Keeps : ℕ → Space → ℕ → ℕ → Next → Type 0
 Keeps c t stage bound (Go point) = Knows (mine c t) point × IsNearer c t stage bound point
-Keeps c t stage bound (Over arena point) = Idle (mine c t) × ((m : Mine) → Idle m → Knows m point) × (stages point < stage)
+Keeps c t stage bound (InArena arena point) = Idle (mine c t) × ((m : Mine) → Idle m → Knows m point) × (stages point < stage)
 Keeps c t stage bound (Move class) = Idle (mine c t) × (class < 121) × (1 < stage)
 Keeps c t stage bound Nowhere = ⊥
 Keeps c t stage bound next = Idle (mine c t)
@@ -228,7 +228,7 @@ BeginsKnow = (m : Mine) (request : Request) (desk : DeskFacts) → IsInRange req
 -- where a call goes on once regions went back, it knows what it has to
 abbrev pub BatchesKnow : Type 0
 BatchesKnow = (m : Mine) (request : Request) (desk : DeskFacts) (arena : ℕ)
-    → Ready m desk (settle request desk arena More) → KnowsNext m (settle request desk arena More).next
+    → Ready m desk (settle request desk arena NextBatch) → KnowsNext m (settle request desk arena NextBatch).next
 
 -- likewise where another region takes the place of the one in hand: the client has then what that leaves
 abbrev pub MovesKnow : Type 0

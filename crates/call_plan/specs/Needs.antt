@@ -1,7 +1,7 @@
 -- What a call tells that it needs, by where it stands.
 use Rattle.std.specs.Prelude.{◌≡◌, ◌≤◌, ℕ, false, List, [], ◌∷◌, length, IsSomeAnd}
 use Rattle.call_plan.specs.Clients.{DeskFacts, addrs_in, going, is_cacheable}
-use Rattle.call_plan.specs.Words.{Request, Malloc, Memalign, Free, Publish, Realloc, Flush, Cache, NewCache, TurnPoint, Giving, Turns, Next, Go, Over, Ends, Nowhere, Stage}
+use Rattle.call_plan.specs.Words.{Request, Malloc, Memalign, Free, Publish, Realloc, Flush, Cache, NewCache, TurnPoint, Giving, Turns, Next, Go, InArena, Ends, Nowhere, Stage}
 use Rattle.call_plan.specs.Desks.{flushes}
 use Rattle.call_plan.specs.declared.needs.Need.{Need}
 use Rattle.call_plan.specs.declared.needs.Need.TheVariants.{Turn as NeedsTurn, Ask as NeedsAsk, Done as IsDone, Starved as IsStarved}
@@ -42,7 +42,7 @@ IsGiving next = ⊥
 -- no regions go back where an item leads, before it is known which
 abbrev pub GivesNone : Next → Type 0
 GivesNone (Go (Turns (Giving addrs))) = ⊥
-GivesNone (Over index (Turns (Giving addrs))) = ⊥
+GivesNone (InArena index (Turns (Giving addrs))) = ⊥
 GivesNone next = Unit {0}
 
 -- no memory is wanted to name the regions that go back: it is the one in hand alone, which isn't to be cached, or they are named

@@ -1,6 +1,6 @@
 -- What is so of every point of a call, whatever it was fed: what it asks for fits into a number.
 use Rattle.std.specs.Prelude.{◌<◌, ◌≤◌, ◌^◌}
-use Rattle.call_plan.specs.Words.{Wish, Resize, Then, Batches, Visiting, Moving, TurnPoint, Filling, Looking, Landing, Finding, Offering, Widening, Narrowing, AskPoint, Skipping, Trimming, Growing, Paring, Needing, Granting, Committing, Merging, Easing, Returning, Decommitting, Forcing, Cutting, Extending, Sparing, Backing, Joining, Point, Turns, Asks, Tells, Next, Go, Over, Move, max_series}
+use Rattle.call_plan.specs.Words.{Wish, Resize, AfterFlight, Batches, Visiting, Moving, TurnPoint, Filling, Looking, Landing, Finding, Offering, Widening, Narrowing, AskPoint, Skipping, Trimming, Growing, SplittingGrown, GrowingExactly, SplittingExact, Committing, Merging, PurgingLazily, Returning, Decommitting, Forcing, Cutting, Extending, Sparing, Backing, Joining, Point, Turns, Asks, Tells, Next, Go, InArena, Move, max_series}
 
 -- the pages of a wish are few, and its class is one
 abbrev pub IsFew : Wish → Type 0
@@ -11,7 +11,7 @@ abbrev pub IsFewPages : Resize → Type 0
 IsFewPages resize = (resize.pages ≤ 2 ^ 32) × (resize.class < 121)
 
 -- the class of a region that is to be got is one
-abbrev pub IsSizedThen : Then → Type 0
+abbrev pub IsSizedThen : AfterFlight → Type 0
 IsSizedThen Batches = Unit {0}
 IsSizedThen (Visiting visit left) = Unit {0}
 IsSizedThen (Moving class) = class < 121
@@ -32,12 +32,12 @@ abbrev pub IsSized : AskPoint → Type 0
 IsSized (Skipping wish span is_committed skip) = IsFew wish
 IsSized (Trimming wish span is_committed) = IsFew wish
 IsSized (Growing wish chunks) = IsFew wish × (chunks ≤ max_series)
-IsSized (Paring wish span is_committed) = IsFew wish
-IsSized (Needing wish) = IsFew wish
-IsSized (Granting wish span is_committed) = IsFew wish
+IsSized (SplittingGrown wish span is_committed) = IsFew wish
+IsSized (GrowingExactly wish) = IsFew wish
+IsSized (SplittingExact wish span is_committed) = IsFew wish
 IsSized (Committing wish span) = IsFew wish
 IsSized (Merging low high own_low fresh later) = IsSizedThen later
-IsSized (Easing span later) = IsSizedThen later
+IsSized (PurgingLazily span later) = IsSizedThen later
 IsSized (Returning span later) = IsSizedThen later
 IsSized (Decommitting span later) = IsSizedThen later
 IsSized (Forcing span later) = IsSizedThen later
@@ -56,6 +56,6 @@ IsSizedPoint (Tells span is_committed) = Unit {0}
 -- where a call goes next, what is asked for fits into a number
 abbrev pub IsSizedNext : Next → Type 0
 IsSizedNext (Go point) = IsSizedPoint point
-IsSizedNext (Over index point) = IsSizedPoint point
+IsSizedNext (InArena index point) = IsSizedPoint point
 IsSizedNext (Move class) = class < 121
 IsSizedNext next = Unit {0}

@@ -2,7 +2,7 @@
 use Rattle.std.specs.Prelude.{◌≡◌, ℕ, ◌+◌, ◌-◌, Bool, true, false, Option, None, Some}
 use Rattle.space_model.specs.Step.{next_flight}
 use Rattle.space_model.specs.Purging.{is_regranted}
-use Rattle.call_plan.specs.Words.{Then, Replied, Refused, AskPoint, Skipping, Trimming, Growing, Paring, Needing, Granting, Committing, Merging, Easing, Returning, Decommitting, Forcing, Cutting, Extending, Sparing, Backing, Joining, Offering, Turns, Asks, Next, Go, Ends, Refuses, Reply, Space, Span, Sound, mine, AskFacts}
+use Rattle.call_plan.specs.Words.{AfterFlight, Replied, Refused, AskPoint, Skipping, Trimming, Growing, SplittingGrown, GrowingExactly, SplittingExact, Committing, Merging, PurgingLazily, Returning, Decommitting, Forcing, Cutting, Extending, Sparing, Backing, Joining, Offering, Turns, Asks, Next, Go, Ends, Refuses, Reply, Space, Span, Sound, mine, AskFacts}
 use Rattle.call_plan.specs.Table.{look_on, move, need_chunks, put_next, put_purged, step, want}
 use Rattle.call_plan.specs.Knows.{Flies, Idle, Knows}
 use Rattle.call_plan.specs.Laws.{Moves, flights_of}
@@ -17,7 +17,7 @@ HoldsExtent c t count span next there = (next ≡ there) × (flights_of c t ≡ 
 
 -- a dalloc leaves the extent to the client, which goes on with its decommit; where its pages have an owner again it is
 -- given up, and the client goes on with the next one that it has in flight
-abbrev pub AfterDalloc : ℕ → Space → Space → Bool → Span → Then → Next → Type 0
+abbrev pub AfterDalloc : ℕ → Space → Space → Bool → Span → AfterFlight → Next → Type 0
 AfterDalloc c s t false span later next = HoldsExtent c t (flights_of c s + 1) span next (Go (Asks (Decommitting span later) None))
 AfterDalloc c s t true span later next = (next ≡ put_next later (next_flight c s.parts)) × (flights_of c t ≡ flights_of c s)
 
@@ -31,13 +31,13 @@ abbrev pub AfterRefusal : ℕ → Space → Space → Option ℕ → AskPoint �
 AfterRefusal c s t found (Skipping wish span is_committed skip) asked next = Rests c t next (need_chunks wish)
 AfterRefusal c s t found (Trimming wish span is_committed) asked next = Rests c t next (need_chunks wish)
 AfterRefusal c s t found (Growing wish chunks) asked next = Rests c t next (need_chunks wish)
-AfterRefusal c s t found (Paring wish span is_committed) asked next = Rests c t next (need_chunks wish)
-AfterRefusal c s t found (Needing wish) asked next = Rests c t next (Ends (Refused asked))
-AfterRefusal c s t found (Granting wish span is_committed) asked next = Rests c t next (Ends (Refused asked))
+AfterRefusal c s t found (SplittingGrown wish span is_committed) asked next = Rests c t next (need_chunks wish)
+AfterRefusal c s t found (GrowingExactly wish) asked next = Rests c t next (Ends (Refused asked))
+AfterRefusal c s t found (SplittingExact wish span is_committed) asked next = Rests c t next (Ends (Refused asked))
 AfterRefusal c s t found (Committing wish span) asked next = Rests c t next (Ends (Refused asked))
 AfterRefusal c s t found (Merging low high true fresh later) asked next = HoldsExtent c t (flights_of c s - 1) low next (look_on low true fresh later)
 AfterRefusal c s t found (Merging low high false fresh later) asked next = HoldsExtent c t (flights_of c s - 1) high next (look_on high false fresh later)
-AfterRefusal c s t found (Easing span later) asked next = HoldsExtent c t (flights_of c s) span next (Go (Turns (Offering span later)))
+AfterRefusal c s t found (PurgingLazily span later) asked next = HoldsExtent c t (flights_of c s) span next (Go (Turns (Offering span later)))
 AfterRefusal c s t found (Returning span later) asked next = AfterDalloc c s t (is_regranted found span s.parts) span later next
 AfterRefusal c s t found (Decommitting span later) asked next = HoldsExtent c t (flights_of c s) span next (Go (Asks (Forcing span later) None))
 AfterRefusal c s t found (Forcing span later) asked next = HoldsExtent c t (flights_of c s) span next (put_purged span later)

@@ -2,7 +2,7 @@
 use Rattle.std.specs.Prelude.{◌≡◌, ℕ, ◌+◌, ◌-◌, ◌*◌, ◌<◌, ◌≤◌, ◌==◌, Bool, false, length, filter, max, if◌then◌else◌}
 use Rattle.space_model.specs.declared.Op.TheVariants.{Back}
 use Rattle.space_model.specs.Step.{is_emptied, staying}
-use Rattle.call_plan.specs.Words.{Item, TurnPoint, Landing, Finding, Offering, AskPoint, Skipping, Trimming, Growing, Paring, Needing, Granting, Committing, Merging, Easing, Returning, Decommitting, Forcing, Cutting, Extending, Sparing, Backing, Joining, Point, Turns, Asks, Tells, Next, Go, Op, Space, Sound, Mine, mine}
+use Rattle.call_plan.specs.Words.{Item, TurnPoint, Landing, Finding, Offering, AskPoint, Skipping, Trimming, Growing, SplittingGrown, GrowingExactly, SplittingExact, Committing, Merging, PurgingLazily, Returning, Decommitting, Forcing, Cutting, Extending, Sparing, Backing, Joining, Point, Turns, Asks, Tells, Next, Go, Op, Space, Sound, Mine, mine}
 use Rattle.call_plan.specs.Table.{Want, WantTurn, WantAsk, want, step, is_marked}
 use Rattle.call_plan.specs.Knows.{Knows}
 use Rattle.call_plan.specs.Laws.{Moves}
@@ -30,12 +30,12 @@ abbrev pub needed_ask : ℕ → AskPoint → ℕ
 needed_ask flights (Skipping wish span is_committed skip) = 6
 needed_ask flights (Trimming wish span is_committed) = 5
 needed_ask flights (Growing wish chunks) = 6
-needed_ask flights (Paring wish span is_committed) = 5
-needed_ask flights (Needing wish) = 4
-needed_ask flights (Granting wish span is_committed) = 3
+needed_ask flights (SplittingGrown wish span is_committed) = 5
+needed_ask flights (GrowingExactly wish) = 4
+needed_ask flights (SplittingExact wish span is_committed) = 3
 needed_ask flights (Committing wish span) = 2
 needed_ask flights (Merging low high own_low fresh later) = 16 * (flights - 2) + 1 + (if own_low then 3 else 1) + purge_to_come fresh
-needed_ask flights (Easing span later) = 16 * (flights - 1) + 10
+needed_ask flights (PurgingLazily span later) = 16 * (flights - 1) + 10
 needed_ask flights (Returning span later) = 16 * flights + 8
 needed_ask flights (Decommitting span later) = 16 * (flights - 1) + 7
 needed_ask flights (Forcing span later) = 16 * (flights - 1) + 6

@@ -4,7 +4,7 @@ use Rattle.std.specs.List.{list_any, range_with_len}
 use Rattle.std.specs.Ordering.{int_eq}
 use Rattle.call_plan.specs.Clients.{not_holding, with_new_cache}
 use Rattle.call_plan.specs.Words.{Request, Malloc, Memalign, Free, FreeForeign, Publish, Take, Flush, Cache, PurgeAll, Decay, Time, Reset, Destroy, Create, Bind, HookBox, GrowLimit, Realloc, MallocIn, FreeIn, NewCache, FlushCache, EndCache, Slot, NoCache, CachesFull, free_slot, Item, Region, Finished, Ok, TooLarge, BadAlign, NotHeld, NoSuchArena as NoArena, Automatic}
-use Rattle.call_plan.specs.Words.{Wish, Resize, Visit, Change, Stops, Visits, Leaves, TurnPoint, Filling, Looking, Giving, Taking, Advancing, Changing, Making, Resetting, Destroying, Publishing, Owning, Widening, Narrowing, Turns, Next, Go, Over, More, Move, Gone, Ends, Nowhere, Stage}
+use Rattle.call_plan.specs.Words.{Wish, Resize, Visit, Change, Stops, Visits, Leaves, TurnPoint, Filling, Looking, Giving, Taking, Advancing, Changing, Making, Resetting, Destroying, Publishing, Owning, Widening, Narrowing, Turns, Next, Go, InArena, NextBatch, Move, NotLive, Ends, Nowhere, Stage}
 use Rattle.call_plan.specs.Words.{Rest, ToDirty, ToMuzzy, ToRetained, Setting, DirtyMs, MuzzyMs, SetBox, SetBound, SetLimit, MakeLive, Held, DeskFacts, aligned_for, class_for, pages_at, slots_at, most_regions, BatchFacts, batch_of, cached_of, freeing, gaining, going, going_with, held_at, hit, hitting, reclassing, resizing}
 use Rattle.call_plan.specs.Table.{step}
 use Rattle.call_plan.specs.Desks.{desk_closed, desk_fed, flushes, meant, ready}
@@ -265,10 +265,10 @@ begin request desk = begun (meant request desk) (ready request desk)
 -- where a step leads from a point of the arena, by what the client has then
 abbrev pub settle : Request → DeskFacts → ℕ → Next → Stage
 settle request desk arena (Go point) = stage arena (Go point)
-settle request desk arena (Over index point) = stage index (Go point)
-settle request desk arena More = all_goes request desk arena
+settle request desk arena (InArena index point) = stage index (Go point)
+settle request desk arena NextBatch = all_goes request desk arena
 settle request desk arena (Move class) = move_stage request arena class (hit class desk) desk
-settle request desk arena Gone = stage arena (Ends (NoArena arena))
+settle request desk arena NotLive = stage arena (Ends (NoArena arena))
 settle request desk arena (Ends answer) = stage arena (Ends answer)
 settle request desk arena Nowhere = stage arena Nowhere
 

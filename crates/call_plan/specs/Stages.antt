@@ -6,8 +6,8 @@ use Rattle.call_plan.specs.declared.needs.Answered.{Answered}
 use Rattle.call_plan.specs.Items.{Item, Told}
 use Rattle.call_plan.specs.declared.points.AskPoint.{AskPoint}
 use Rattle.call_plan.specs.declared.points.TurnPoint.{TurnPoint}
-use Rattle.call_plan.specs.declared.points.Lead.{Lead}
-use Rattle.call_plan.specs.declared.points.Lead.TheVariants.{Turns as AtTurn, Asks as AtAsk, Tells as AtEnd, Over as ToOther, More as ToMore, Move as ToMove, Gone as ToGone, Ends as ToAnswer, Nowhere as ToNowhere}
+use Rattle.call_plan.specs.declared.points.NextStep.{NextStep}
+use Rattle.call_plan.specs.declared.points.NextStep.TheVariants.{Turns as AtTurn, Asks as AtAsk, Tells as AtEnd, InArena as ToInArena, NextBatch as ToNextBatch, Move as ToMove, NotLive as ToNotLive, Ends as ToAnswer, Nowhere as ToNowhere}
 
 -- A point at which a call waits: for the reply to a turn; for the answer to an ask, or, where it is there, for the reply to the
 -- turn that takes it in; or for the ask that destroys an extent of an arena that has ended, committed or not.
@@ -21,10 +21,10 @@ pub data Point : Type 0 where
 -- nowhere, since it is none that could come.
 pub data Next : Type 0 where
   Go : Point → Next
-  Over : ℕ → Point → Next
-  More : Next
+  InArena : ℕ → Point → Next
+  NextBatch : Next
   Move : ℕ → Next
-  Gone : Next
+  NotLive : Next
   Ends : Answered → Next
   Nowhere : Next
 
@@ -33,15 +33,15 @@ pub record Stage : Type 0 where
   pub arena : ℕ
   pub next : Next
 
--- where a lead leads, with what was answered there
-abbrev pub led : Lead → Option AskFacts → Next
+-- where the next step leads, with what was answered there
+abbrev pub led : NextStep → Option AskFacts → Next
 led (AtTurn point) heard = Go (Turns point)
 led (AtAsk point) heard = Go (Asks point heard)
 led (AtEnd span is_committed) heard = Go (Tells span is_committed)
-led (ToOther arena point) heard = Over arena (Turns point)
-led ToMore heard = More
+led (ToInArena arena point) heard = InArena arena (Turns point)
+led ToNextBatch heard = NextBatch
 led (ToMove class) heard = Move class
-led ToGone heard = Gone
+led ToNotLive heard = NotLive
 led (ToAnswer answer) heard = Ends answer
 led ToNowhere heard = Nowhere
 
@@ -56,6 +56,6 @@ hears_next (Go point) item = hears point item
 hears_next next item = false
 
 -- only at an ask there is an answer to be taken in
-abbrev pub IsHeardAt : Lead → Option AskFacts → Type 0
+abbrev pub IsHeardAt : NextStep → Option AskFacts → Type 0
 IsHeardAt (AtAsk point) heard = Unit {0}
-IsHeardAt lead heard = heard ≡ None
+IsHeardAt step heard = heard ≡ None

@@ -4,7 +4,7 @@ use Rattle.space_model.specs.declared.Ask.TheVariants.{Destroy as DestroyExtent}
 use Rattle.space_model.specs.declared.Op.TheVariants.{Look, CutDone, GrowDone, CommitDone, Land, Back, PutLook, MergeDone, Fill, Advance, PurgeTake, LazyDone, Offer, OfferDone, DecommitDone, ForcedDone, Publish, TakeOver, Reset, Destroy, DestroyTake, Set, Widen, JoinDone, Trim, TrimDone}
 use Rattle.hook_api.specs.Asked.{heard_in}
 use Rattle.call_plan.specs.Words.{Item, Replied, Told, Starved, Given, Region, Finished, Arena, Limits, Ok, Refused, BadAnswer, NotHeld, Busy, NoMemory, ArenasFull, end_of, max_series, Rest}
-use Rattle.call_plan.specs.Words.{Wish, Resize, Visit, Then, Batches, Visiting, Moving, Change, Stops, Visits, Leaves, TurnPoint, Filling, Looking, Landing, Giving, Finding, Taking, Offering, Advancing, Changing, Making, Resetting, Destroying, Dooming, Publishing, Owning, Widening, Narrowing, AskPoint, Skipping, Trimming, Growing, Paring, Needing, Granting, Committing, Merging, Easing, Returning, Decommitting, Forcing, Cutting, Extending, Sparing, Backing, Joining, Point, Turns, Asks, Tells, Next, Go, Over, More, Move, Gone, Ends, Nowhere}
+use Rattle.call_plan.specs.Words.{Wish, Resize, Visit, AfterFlight, Batches, Visiting, Moving, Change, Stops, Visits, Leaves, TurnPoint, Filling, Looking, Landing, Giving, Finding, Taking, Offering, Advancing, Changing, Making, Resetting, Destroying, Dooming, Publishing, Owning, Widening, Narrowing, AskPoint, Skipping, Trimming, Growing, SplittingGrown, GrowingExactly, SplittingExact, Committing, Merging, PurgingLazily, Returning, Decommitting, Forcing, Cutting, Extending, Sparing, Backing, Joining, Point, Turns, Asks, Tells, Next, Go, InArena, NextBatch, Move, NotLive, Ends, Nowhere}
 use Rattle.call_plan.specs.Words.{Ask, Alloc, Dalloc, Commit, Decommit, PurgeLazy, PurgeForced, Split, Merge, Answer, Placed, Op, Reply, NoArena, Nothing, Noted, Took, Grow, Cut, Whole, Refuse, Bad, Grown, Landed, NextFlight, Beside, Purge, Joined, Regions, LimitsAre, Taken, Lazy, Kept, Abandoned, Decommitted, Doomed, Owned, InUse, ToDirty, ToMuzzy, Setting, Unbind, Span, AskFacts, pages_at}
 
 -- ---- what is wanted at a point
@@ -67,12 +67,12 @@ abbrev pub ask_at : AskPoint → Ask
 ask_at (Skipping wish span is_committed skip) = Split span skip
 ask_at (Trimming wish span is_committed) = Split span wish.pages
 ask_at (Growing wish chunks) = alloc_of wish (chunks * 512)
-ask_at (Paring wish span is_committed) = Split span wish.pages
-ask_at (Needing wish) = alloc_of wish (whole_chunks wish.pages)
-ask_at (Granting wish span is_committed) = Split span wish.pages
+ask_at (SplittingGrown wish span is_committed) = Split span wish.pages
+ask_at (GrowingExactly wish) = alloc_of wish (whole_chunks wish.pages)
+ask_at (SplittingExact wish span is_committed) = Split span wish.pages
 ask_at (Committing wish span) = Commit span
 ask_at (Merging low high own_low fresh later) = Merge low high
-ask_at (Easing span later) = PurgeLazy span
+ask_at (PurgingLazily span later) = PurgeLazy span
 ask_at (Returning span later) = Dalloc span true
 ask_at (Decommitting span later) = Decommit span
 ask_at (Forcing span later) = PurgeForced span
@@ -87,12 +87,12 @@ abbrev pub done_at : AskPoint → AskFacts → Op
 done_at (Skipping wish span is_committed skip) asked = CutDone (heard_in asked) false
 done_at (Trimming wish span is_committed) asked = CutDone (heard_in asked) true
 done_at (Growing wish chunks) asked = GrowDone (heard_in asked) None
-done_at (Paring wish span is_committed) asked = CutDone (heard_in asked) true
-done_at (Needing wish) asked = GrowDone (heard_in asked) None
-done_at (Granting wish span is_committed) asked = CutDone (heard_in asked) true
+done_at (SplittingGrown wish span is_committed) asked = CutDone (heard_in asked) true
+done_at (GrowingExactly wish) asked = GrowDone (heard_in asked) None
+done_at (SplittingExact wish span is_committed) asked = CutDone (heard_in asked) true
 done_at (Committing wish span) asked = CommitDone (heard_in asked)
 done_at (Merging low high own_low fresh later) asked = MergeDone (heard_in asked) own_low
-done_at (Easing span later) asked = LazyDone (heard_in asked)
+done_at (PurgingLazily span later) asked = LazyDone (heard_in asked)
 done_at (Returning span later) asked = OfferDone (heard_in asked) None
 done_at (Decommitting span later) asked = DecommitDone (heard_in asked)
 done_at (Forcing span later) asked = ForcedDone (heard_in asked)
@@ -119,7 +119,7 @@ commit wish span false = Go (Asks (Committing wish span) None)
 -- what is too much of a grant is cut off
 abbrev pub grant : Wish → Span → Bool → Next
 grant wish span is_committed =
-    if nat_lt wish.pages span.pages then Go (Asks (Granting wish span is_committed) None) else commit wish span is_committed
+    if nat_lt wish.pages span.pages then Go (Asks (SplittingExact wish span is_committed) None) else commit wish span is_committed
 
 -- what stands behind the run is cut off
 abbrev pub trim : Wish → Span → Bool → Next
@@ -133,7 +133,7 @@ skip_to wish span is_committed skip =
 
 -- just as many chunks as are needed are asked for
 abbrev pub need_chunks : Wish → Next
-need_chunks wish = Go (Asks (Needing wish) None)
+need_chunks wish = Go (Asks (GrowingExactly wish) None)
 
 -- the arena grows by so many chunks, or at most by the greatest growth, if that is more than is needed
 abbrev pub grow : Wish → ℕ → Next
@@ -192,18 +192,18 @@ abbrev pub visited : Visit → Next
 visited visit = visited_list visit.rest visit.other visit.keep visit.told
 
 -- what follows once nothing is in flight
-abbrev pub onward : Then → Next
-onward Batches = More
+abbrev pub onward : AfterFlight → Next
+onward Batches = NextBatch
 onward (Moving class) = Move class
 onward (Visiting visit left) = if left == 0 then visited visit else Go (Turns (Taking visit (Some left)))
 
 -- the next extent in flight is put down, or there is none
-abbrev pub put_next : Then → Option Span → Next
+abbrev pub put_next : AfterFlight → Option Span → Next
 put_next later None = onward later
 put_next later (Some span) = Go (Turns (Finding span 0 true later))
 
 -- the extent is merged with the neighbour that its look found: the right one, or else the left one, which no third look finds
-abbrev pub beside : Span → ℕ → Bool → Span → Then → Next
+abbrev pub beside : Span → ℕ → Bool → Span → AfterFlight → Next
 beside own tries fresh other later =
     if tries == 0 && other.first == end_of own
     then Go (Asks (Merging own other true fresh later) None)
@@ -211,18 +211,18 @@ beside own tries fresh other later =
     else Nowhere
 
 -- after a merge the extent that stays in flight looks on
-abbrev pub look_on : Span → Bool → Bool → Then → Next
+abbrev pub look_on : Span → Bool → Bool → AfterFlight → Next
 look_on own own_low fresh later = Go (Turns (Finding own (if own_low then 1 else 2) fresh later))
 
 -- an extent that was purged is put down
-abbrev pub put_purged : Span → Then → Next
+abbrev pub put_purged : Span → AfterFlight → Next
 put_purged span later = Go (Turns (Finding span 0 false later))
 
 -- ---- an extent that is purged
 
 -- an extent is purged lazily, or offered to its hook
-abbrev pub drop : Span → Bool → Then → Next
-drop span true later = Go (Asks (Easing span later) None)
+abbrev pub drop : Span → Bool → AfterFlight → Next
+drop span true later = Go (Asks (PurgingLazily span later) None)
 drop span false later = Go (Turns (Offering span later))
 
 -- how many extents of a visit are still to be taken after one: of those that were listed at the first
@@ -242,20 +242,20 @@ limited dirty (Some muzzy) = visit_all (record { rest = ToMuzzy; keep = muzzy; o
 abbrev pub setting_changed : Change → Next
 setting_changed Stops = Ends (Ok Finished)
 setting_changed (Visits visit) = visit_all visit
-setting_changed (Leaves arena) = Over arena (Turns (Changing Unbind Stops))
+setting_changed (Leaves arena) = InArena arena (Turns (Changing Unbind Stops))
 
 -- where the index has an arena already, the next one is tried
 abbrev pub make_next : ℕ → Setting → Next
-make_next index setting = if nat_lt index 31 then Over (index + 1) (Turns (Making (index + 1) setting)) else Ends ArenasFull
+make_next index setting = if nat_lt index 31 then InArena (index + 1) (Turns (Making (index + 1) setting)) else Ends ArenasFull
 
 -- what follows once a region is taken over: it is held, or goes back
 abbrev pub took_over : ℕ → ℕ → Bool → Next
-took_over addr class true = More
+took_over addr class true = NextBatch
 took_over addr class false = Ends (Ok (Region addr class))
 
 -- the region that landed, or was free, is the answer, or takes the place of the one in hand
 abbrev pub got : Wish → ℕ → Next
-got wish addr = if wish.moves then More else Ends (Ok (Region addr wish.class))
+got wish addr = if wish.moves then NextBatch else Ends (Ok (Region addr wish.class))
 
 -- ---- where an item leads
 
@@ -263,10 +263,10 @@ got wish addr = if wish.moves then More else Ends (Ok (Region addr wish.class))
 abbrev pub turn_replied : TurnPoint → Reply → Next
 turn_replied (Filling wish count) (Regions (addr ∷ addrs)) = got wish addr
 turn_replied (Filling wish count) Nothing = Go (Turns (Looking wish))
-turn_replied (Filling wish count) NoArena = Gone
+turn_replied (Filling wish count) NoArena = NotLive
 turn_replied (Looking wish) (Took span is_committed skip) = skip_to wish span is_committed skip
 turn_replied (Looking wish) (Grow series) = grow wish series
-turn_replied (Looking wish) NoArena = Gone
+turn_replied (Looking wish) NoArena = NotLive
 turn_replied (Landing wish span) (Landed first count) = got wish first
 turn_replied (Giving addrs) (NextFlight next) = put_next Batches next
 turn_replied (Finding own tries fresh later) (Beside other) = beside own tries fresh other later
@@ -274,27 +274,27 @@ turn_replied (Finding own tries fresh later) (NextFlight next) = put_next later 
 turn_replied (Finding own tries fresh later) (Purge lazy) = drop own lazy later
 turn_replied (Taking visit left) (Taken span lazy listed) = drop span lazy (Visiting visit (takes_left left listed))
 turn_replied (Taking visit left) Nothing = visited visit
-turn_replied (Taking visit left) NoArena = Gone
+turn_replied (Taking visit left) NoArena = NotLive
 turn_replied (Offering span later) Noted = Go (Asks (Returning span later) None)
 turn_replied (Advancing now) (LimitsAre dirty muzzy) = limited dirty muzzy
-turn_replied (Advancing now) NoArena = Gone
+turn_replied (Advancing now) NoArena = NotLive
 turn_replied (Changing setting change) Noted = setting_changed change
-turn_replied (Changing setting change) NoArena = Gone
+turn_replied (Changing setting change) NoArena = NotLive
 turn_replied (Making index setting) Noted = Ends (Ok (Arena index))
 turn_replied (Making index setting) Nothing = make_next index setting
 turn_replied (Resetting cached) (InUse held flights threads) = Ends (Busy held flights threads)
 turn_replied (Resetting cached) Noted = Ends (Ok Finished)
 turn_replied (Resetting cached) (Purge lazy) = visit_all (dirty_visit 0 None false)
-turn_replied (Resetting cached) NoArena = Gone
+turn_replied (Resetting cached) NoArena = NotLive
 turn_replied (Destroying cached) (InUse held flights threads) = Ends (Busy held flights threads)
 turn_replied (Destroying cached) Noted = Go (Turns Dooming)
-turn_replied (Destroying cached) NoArena = Gone
+turn_replied (Destroying cached) NoArena = NotLive
 turn_replied Dooming (Doomed span is_committed) = Go (Tells span is_committed)
 turn_replied Dooming Nothing = Ends (Ok Finished)
 turn_replied (Publishing addr) Noted = Ends (Ok Finished)
 turn_replied (Owning addr frees past) (Owned class) = took_over addr class frees
 turn_replied (Owning addr frees past) Nothing = Ends (NotHeld addr)
-turn_replied (Owning addr frees past) NoArena = Gone
+turn_replied (Owning addr frees past) NoArena = NotLive
 turn_replied (Widening resize) (Took span is_committed skip) = spare resize span is_committed
 turn_replied (Widening resize) Noted = Go (Asks (Extending resize) None)
 turn_replied (Widening resize) Nothing = move resize
@@ -317,7 +317,7 @@ trimmed wish is_committed reply = Nowhere
 abbrev pub grown : Wish → ℕ → Answer → Reply → Next
 grown wish chunks answer Refuse = need_chunks wish
 grown wish chunks answer (Bad why) = Ends (BadAnswer (answered_span (chunks * 512) answer) why)
-grown wish chunks answer (Grown span is_committed) = Go (Asks (Paring wish span is_committed) None)
+grown wish chunks answer (Grown span is_committed) = Go (Asks (SplittingGrown wish span is_committed) None)
 grown wish chunks answer reply = Nowhere
 
 -- after the alloc of as many chunks as are needed
@@ -340,31 +340,31 @@ committed wish span asked Whole = Ends (Refused asked)
 committed wish span asked reply = Nowhere
 
 -- after a merge
-abbrev pub merged : Bool → Bool → Then → Reply → Next
+abbrev pub merged : Bool → Bool → AfterFlight → Reply → Next
 merged own_low fresh later (Joined own) = look_on own own_low fresh later
 merged own_low fresh later reply = Nowhere
 
 -- after a lazy purge
-abbrev pub eased : Span → Then → Reply → Next
+abbrev pub eased : Span → AfterFlight → Reply → Next
 eased span later (Lazy true) = put_purged span later
 eased span later (Lazy false) = Go (Turns (Offering span later))
 eased span later reply = Nowhere
 
 -- after a dalloc
-abbrev pub returned : Span → Then → Reply → Next
+abbrev pub returned : Span → AfterFlight → Reply → Next
 returned span later (NextFlight next) = put_next later next
 returned span later (Abandoned next) = put_next later next
 returned span later Kept = Go (Asks (Decommitting span later) None)
 returned span later reply = Nowhere
 
 -- after a decommit
-abbrev pub decommitted : Span → Then → Reply → Next
+abbrev pub decommitted : Span → AfterFlight → Reply → Next
 decommitted span later (Decommitted true) = put_purged span later
 decommitted span later (Decommitted false) = Go (Asks (Forcing span later) None)
 decommitted span later reply = Nowhere
 
 -- after a forced purge
-abbrev pub forced : Span → Then → Reply → Next
+abbrev pub forced : Span → AfterFlight → Reply → Next
 forced span later Noted = put_purged span later
 forced span later reply = Nowhere
 
@@ -395,7 +395,7 @@ backed resize span reply = Nowhere
 
 -- after the merge with them: the region has its class
 abbrev pub widened : Resize → Reply → Next
-widened resize (Landed first count) = More
+widened resize (Landed first count) = NextBatch
 widened resize Whole = move resize
 widened resize reply = Nowhere
 
@@ -404,12 +404,12 @@ abbrev pub told : AskPoint → AskFacts → Reply → Next
 told (Skipping wish span is_committed skip) asked reply = skipped wish is_committed reply
 told (Trimming wish span is_committed) asked reply = trimmed wish is_committed reply
 told (Growing wish chunks) asked reply = grown wish chunks asked.answer reply
-told (Paring wish span is_committed) asked reply = trimmed wish is_committed reply
-told (Needing wish) asked reply = needed wish asked reply
-told (Granting wish span is_committed) asked reply = grant_split wish is_committed asked reply
+told (SplittingGrown wish span is_committed) asked reply = trimmed wish is_committed reply
+told (GrowingExactly wish) asked reply = needed wish asked reply
+told (SplittingExact wish span is_committed) asked reply = grant_split wish is_committed asked reply
 told (Committing wish span) asked reply = committed wish span asked reply
 told (Merging low high own_low fresh later) asked reply = merged own_low fresh later reply
-told (Easing span later) asked reply = eased span later reply
+told (PurgingLazily span later) asked reply = eased span later reply
 told (Returning span later) asked reply = returned span later reply
 told (Decommitting span later) asked reply = decommitted span later reply
 told (Forcing span later) asked reply = forced span later reply

@@ -9,15 +9,15 @@ pub use Rattle.call_plan.specs.declared.needs.Answered.TheVariants.{Ok, Refused,
 pub use Rattle.call_plan.specs.declared.points.Wish.{Wish}
 pub use Rattle.call_plan.specs.declared.points.Resize.{Resize}
 pub use Rattle.call_plan.specs.declared.points.Visit.{Visit}
-pub use Rattle.call_plan.specs.declared.points.Then.{Then}
-pub use Rattle.call_plan.specs.declared.points.Then.TheVariants.{Batches, Visiting, Moving}
+pub use Rattle.call_plan.specs.declared.points.AfterFlight.{AfterFlight}
+pub use Rattle.call_plan.specs.declared.points.AfterFlight.TheVariants.{Batches, Visiting, Moving}
 pub use Rattle.call_plan.specs.declared.points.Change.{Change}
 pub use Rattle.call_plan.specs.declared.points.Change.TheVariants.{Stops, Visits, Leaves}
 pub use Rattle.call_plan.specs.declared.points.TurnPoint.{TurnPoint}
 pub use Rattle.call_plan.specs.declared.points.TurnPoint.TheVariants.{Filling, Looking, Landing, Giving, Finding, Taking, Offering, Advancing, Changing, Making, Resetting, Destroying, Dooming, Publishing, Owning, Widening, Narrowing}
 pub use Rattle.call_plan.specs.declared.points.AskPoint.{AskPoint}
-pub use Rattle.call_plan.specs.declared.points.AskPoint.TheVariants.{Skipping, Trimming, Growing, Paring, Needing, Granting, Committing, Merging, Easing, Returning, Decommitting, Forcing, Cutting, Extending, Sparing, Backing, Joining}
-pub use Rattle.call_plan.specs.Stages.{Point, Turns, Asks, Tells, Next, Go, Over, More, Move, Gone, Ends, Nowhere, Stage}
+pub use Rattle.call_plan.specs.declared.points.AskPoint.TheVariants.{Skipping, Trimming, Growing, SplittingGrown, GrowingExactly, SplittingExact, Committing, Merging, PurgingLazily, Returning, Decommitting, Forcing, Cutting, Extending, Sparing, Backing, Joining}
+pub use Rattle.call_plan.specs.Stages.{Point, Turns, Asks, Tells, Next, Go, InArena, NextBatch, Move, NotLive, Ends, Nowhere, Stage}
 pub use Rattle.space_model.specs.declared.Ask.{Ask}
 pub use Rattle.space_model.specs.declared.Ask.TheVariants.{Alloc, Dalloc, Commit, Decommit, PurgeLazy, PurgeForced, Split, Merge}
 pub use Rattle.space_model.specs.declared.Answer.{Answer}

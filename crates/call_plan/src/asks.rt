@@ -6,7 +6,7 @@ ghost use Rattle.call_plan.specs.Points.{IsSized};
 ghost use Rattle.call_plan.specs.Stages.{led};
 
 use crate::calls::{ask, turn};
-use crate::{Answered, AskPoint, Lead, Need, Resize, TurnPoint, Wish};
+use crate::{Answered, AskPoint, Need, NextStep, Resize, TurnPoint, Wish};
 use hook_api::Asked;
 use size_classes::class_pages;
 use space_model::{Answer, Ask, CHUNK_PAGES, Op, Reply, Span};
@@ -50,86 +50,86 @@ impl Wish {
     }
 
     /// After the split of what stands before the run.
-    fn skipped(self, committed: bool, reply: &Reply, lead: &mut Lead)
-        ensures { led lead.new None ≡ skipped self committed reply.now }
+    fn skipped(self, committed: bool, reply: &Reply, step: &mut NextStep)
+        ensures { led step.new None ≡ skipped self committed reply.now }
     {
         match *reply {
-            Reply::Cut(high) => self.trim(high, committed, lead),
-            Reply::Whole => *lead = self.need_chunks(),
-            _ => *lead = Lead::Nowhere,
+            Reply::Cut(high) => self.trim(high, committed, step),
+            Reply::Whole => *step = self.need_chunks(),
+            _ => *step = NextStep::Nowhere,
         }
     }
 
     /// After the split of what stands behind the run, or of a grant of more chunks than are needed.
-    fn trimmed(self, committed: bool, reply: &Reply, lead: &mut Lead)
-        ensures { led lead.new None ≡ trimmed self committed reply.now }
+    fn trimmed(self, committed: bool, reply: &Reply, step: &mut NextStep)
+        ensures { led step.new None ≡ trimmed self committed reply.now }
     {
         match *reply {
-            Reply::Cut(low) => self.commit(low, committed, lead),
-            Reply::Whole => *lead = self.need_chunks(),
-            _ => *lead = Lead::Nowhere,
+            Reply::Cut(low) => self.commit(low, committed, step),
+            Reply::Whole => *step = self.need_chunks(),
+            _ => *step = NextStep::Nowhere,
         }
     }
 
     /// After the alloc of more chunks than are needed.
-    fn grown(self, chunks: u64, answer: Answer, reply: &Reply, lead: &mut Lead)
+    fn grown(self, chunks: u64, answer: Answer, reply: &Reply, step: &mut NextStep)
         requires { chunks ≤ 16384 }
-        ensures { led lead.new None ≡ grown self chunks answer reply.now }
+        ensures { led step.new None ≡ grown self chunks answer reply.now }
     {
         match *reply {
-            Reply::Refused => *lead = self.need_chunks(),
+            Reply::Refused => *step = self.need_chunks(),
             Reply::Bad(why) => {
                 let span = answered_span(chunks * CHUNK_PAGES, answer);
-                *lead = Lead::Ends(Answered::BadAnswer { span, why });
+                *step = NextStep::Ends(Answered::BadAnswer { span, why });
             }
             Reply::Grown { span, committed } => {
                 let wish = self;
-                *lead = AskPoint::Paring {
+                *step = AskPoint::SplittingGrown {
                     wish,
                     span,
                     committed,
                 }
                 .first();
             }
-            _ => *lead = Lead::Nowhere,
+            _ => *step = NextStep::Nowhere,
         }
     }
 
     /// After the alloc of as many chunks as are needed.
-    fn needed(self, asked: &Asked, reply: &Reply, lead: &mut Lead)
+    fn needed(self, asked: &Asked, reply: &Reply, step: &mut NextStep)
         requires { self.pages ≤ 2 ^ 32 }
-        ensures { led lead.new None ≡ needed self asked.now reply.now }
+        ensures { led step.new None ≡ needed self asked.now reply.now }
     {
         match *reply {
-            Reply::Refused => *lead = Lead::Ends(Answered::Refused(*asked)),
+            Reply::Refused => *step = NextStep::Ends(Answered::Refused(*asked)),
             Reply::Bad(why) => {
                 let span = answered_span(self.chunk_pages(), asked.answer());
-                *lead = Lead::Ends(Answered::BadAnswer { span, why });
+                *step = NextStep::Ends(Answered::BadAnswer { span, why });
             }
-            Reply::Grown { span, committed } => self.grant(span, committed, lead),
-            _ => *lead = Lead::Nowhere,
+            Reply::Grown { span, committed } => self.grant(span, committed, step),
+            _ => *step = NextStep::Nowhere,
         }
     }
 
     /// After the split of what that granted.
-    fn granted(self, committed: bool, asked: &Asked, reply: &Reply, lead: &mut Lead)
-        ensures { led lead.new None ≡ grant_split self committed asked.now reply.now }
+    fn granted(self, committed: bool, asked: &Asked, reply: &Reply, step: &mut NextStep)
+        ensures { led step.new None ≡ grant_split self committed asked.now reply.now }
     {
         match *reply {
-            Reply::Cut(low) => self.commit(low, committed, lead),
-            Reply::Whole => *lead = Lead::Ends(Answered::Refused(*asked)),
-            _ => *lead = Lead::Nowhere,
+            Reply::Cut(low) => self.commit(low, committed, step),
+            Reply::Whole => *step = NextStep::Ends(Answered::Refused(*asked)),
+            _ => *step = NextStep::Nowhere,
         }
     }
 
     /// After a commit.
-    fn committed(self, span: Span, asked: &Asked, reply: &Reply, lead: &mut Lead)
-        ensures { led lead.new None ≡ committed self span asked.now reply.now }
+    fn committed(self, span: Span, asked: &Asked, reply: &Reply, step: &mut NextStep)
+        ensures { led step.new None ≡ committed self span asked.now reply.now }
     {
         match *reply {
-            Reply::Noted => *lead = TurnPoint::Landing(self, span).next(),
-            Reply::Whole => *lead = Lead::Ends(Answered::Refused(*asked)),
-            _ => *lead = Lead::Nowhere,
+            Reply::Noted => *step = TurnPoint::Landing(self, span).next(),
+            Reply::Whole => *step = NextStep::Ends(Answered::Refused(*asked)),
+            _ => *step = NextStep::Nowhere,
         }
     }
 }
@@ -143,15 +143,17 @@ impl AskPoint {
         match *self {
             AskPoint::Skipping { span, skip, .. } => put_split(arena, span, skip, need),
             AskPoint::Trimming { wish, span, .. }
-            | AskPoint::Paring { wish, span, .. }
-            | AskPoint::Granting { wish, span, .. } => put_split(arena, span, wish.pages, need),
+            | AskPoint::SplittingGrown { wish, span, .. }
+            | AskPoint::SplittingExact { wish, span, .. } => put_split(
+                arena, span, wish.pages, need,
+            ),
             AskPoint::Growing(wish, chunks) => {
                 *need = ask(arena, wish.alloc(chunks * CHUNK_PAGES));
             }
-            AskPoint::Needing(wish) => *need = ask(arena, wish.alloc(wish.chunk_pages())),
+            AskPoint::GrowingExactly(wish) => *need = ask(arena, wish.alloc(wish.chunk_pages())),
             AskPoint::Committing(_, span) => *need = ask(arena, Ask::Commit(span)),
             AskPoint::Merging { low, high, .. } => *need = ask(arena, Ask::Merge { low, high }),
-            AskPoint::Easing(span, _) => *need = ask(arena, Ask::PurgeLazy(span)),
+            AskPoint::PurgingLazily(span, _) => *need = ask(arena, Ask::PurgeLazy(span)),
             AskPoint::Returning(span, _) => {
                 let committed = true;
                 *need = ask(arena, Ask::Dalloc { span, committed });
@@ -182,13 +184,13 @@ impl AskPoint {
                 *need = turn(arena, client, Op::CutDone { heard, keep_low });
             }
             AskPoint::Trimming { .. }
-            | AskPoint::Paring { .. }
-            | AskPoint::Granting { .. }
+            | AskPoint::SplittingGrown { .. }
+            | AskPoint::SplittingExact { .. }
             | AskPoint::Sparing { .. } => {
                 let keep_low = true;
                 *need = turn(arena, client, Op::CutDone { heard, keep_low });
             }
-            AskPoint::Growing(..) | AskPoint::Needing(_) | AskPoint::Extending(_) => {
+            AskPoint::Growing(..) | AskPoint::GrowingExactly(_) | AskPoint::Extending(_) => {
                 *need = turn(arena, client, Op::GrowDone { heard, found: None });
             }
             AskPoint::Committing(..) | AskPoint::Backing(..) => {
@@ -197,7 +199,7 @@ impl AskPoint {
             AskPoint::Merging { own_low, .. } => {
                 *need = turn(arena, client, Op::MergeDone { heard, own_low });
             }
-            AskPoint::Easing(..) => *need = turn(arena, client, Op::LazyDone { heard }),
+            AskPoint::PurgingLazily(..) => *need = turn(arena, client, Op::LazyDone { heard }),
             AskPoint::Returning(..) => {
                 *need = turn(arena, client, Op::OfferDone { heard, found: None });
             }
@@ -215,53 +217,53 @@ impl AskPoint {
     }
 
     /// Where the reply to the turn leads that took the answer in.
-    pub(crate) fn told(&self, asked: &Asked, reply: &Reply, lead: &mut Lead)
+    pub(crate) fn told(&self, asked: &Asked, reply: &Reply, step: &mut NextStep)
         requires { IsSized self.now }
-        ensures { led lead.new None ≡ told self.now asked.now reply.now }
+        ensures { led step.new None ≡ told self.now asked.now reply.now }
     {
         match *self {
             AskPoint::Skipping {
                 wish,
                 committed,
                 ..
-            } => wish.skipped(committed, reply, lead),
+            } => wish.skipped(committed, reply, step),
             AskPoint::Trimming {
                 wish,
                 committed,
                 ..
             }
-            | AskPoint::Paring {
+            | AskPoint::SplittingGrown {
                 wish,
                 committed,
                 ..
-            } => wish.trimmed(committed, reply, lead),
-            AskPoint::Growing(wish, chunks) => wish.grown(chunks, asked.answer(), reply, lead),
-            AskPoint::Needing(wish) => wish.needed(asked, reply, lead),
-            AskPoint::Granting {
+            } => wish.trimmed(committed, reply, step),
+            AskPoint::Growing(wish, chunks) => wish.grown(chunks, asked.answer(), reply, step),
+            AskPoint::GrowingExactly(wish) => wish.needed(asked, reply, step),
+            AskPoint::SplittingExact {
                 wish,
                 committed,
                 ..
-            } => wish.granted(committed, asked, reply, lead),
-            AskPoint::Committing(wish, span) => wish.committed(span, asked, reply, lead),
+            } => wish.granted(committed, asked, reply, step),
+            AskPoint::Committing(wish, span) => wish.committed(span, asked, reply, step),
             AskPoint::Merging {
                 own_low,
                 fresh,
                 then,
                 ..
-            } => then.merged(own_low, fresh, reply, lead),
-            AskPoint::Easing(span, then) => then.eased(span, reply, lead),
-            AskPoint::Returning(span, then) => then.returned(span, reply, lead),
-            AskPoint::Decommitting(span, then) => then.decommitted(span, reply, lead),
-            AskPoint::Forcing(span, then) => then.forced(span, reply, lead),
-            AskPoint::Cutting(resize) => resize.narrowed(reply, lead),
-            AskPoint::Extending(resize) => resize.extended(reply, lead),
+            } => then.merged(own_low, fresh, reply, step),
+            AskPoint::PurgingLazily(span, then) => then.eased(span, reply, step),
+            AskPoint::Returning(span, then) => then.returned(span, reply, step),
+            AskPoint::Decommitting(span, then) => then.decommitted(span, reply, step),
+            AskPoint::Forcing(span, then) => then.forced(span, reply, step),
+            AskPoint::Cutting(resize) => resize.narrowed(reply, step),
+            AskPoint::Extending(resize) => resize.extended(reply, step),
             AskPoint::Sparing {
                 resize,
                 committed,
                 ..
-            } => resize.spared(committed, reply, lead),
-            AskPoint::Backing(resize, span) => resize.backed(span, reply, lead),
-            AskPoint::Joining(resize, _) => resize.widened(reply, lead),
+            } => resize.spared(committed, reply, step),
+            AskPoint::Backing(resize, span) => resize.backed(span, reply, step),
+            AskPoint::Joining(resize, _) => resize.widened(reply, step),
         }
     }
 }

@@ -11,7 +11,9 @@ ghost use Rattle.call_plan.specs.Points.{IsSizedNext};
 ghost use Rattle.call_plan.specs.Runs.{after_time, all_done, batch_goes, begin, begin_bind, begin_cache, begin_desk, begin_flush, begin_free, begin_get, begin_malloc, begin_memalign, begin_publish, begin_set, begin_stage, first_turn, first_turn_but_0, get, purge_visit, share, stage, decay_setting, whole_visit, wish_for};
 ghost use Rattle.call_plan.specs.Stages.{Ends, led};
 
-use crate::{Answered, Batch, Change, Desk, Given, Lead, Request, Stage, TurnPoint, Visit, Wish};
+use crate::{
+    Answered, Batch, Change, Desk, Given, NextStep, Request, Stage, TurnPoint, Visit, Wish,
+};
 use size_classes::{
     PAGE_BYTES, SMALL_CLASSES, SizeFault, aligned_class, class_of, class_pages, slab_regions, slots,
 };
@@ -50,7 +52,7 @@ fn served(class: u8, count: u32) -> u32
 }
 
 /// Regions of a small class are looked for in the slabs first.
-pub(crate) fn get(moves: bool, class: u8, align: u64, count: u32) -> Lead
+pub(crate) fn get(moves: bool, class: u8, align: u64, count: u32) -> NextStep
     requires { class < 121 }
     ensures { led result None ≡ get moves class align count }
 {
@@ -123,7 +125,7 @@ impl Stage {
     pub(crate) fn end(&mut self, arena: u32, answer: Answered)
         ensures { self.new ≡ stage arena (Ends answer) }
     {
-        self.stand(arena, Lead::Ends(answer));
+        self.stand(arena, NextStep::Ends(answer));
     }
 
     /// A region of a class: the one that was hit in the cache, or one of those that are got.
@@ -179,12 +181,12 @@ impl Stage {
     fn first(&mut self, arena: u32, point: TurnPoint)
         ensures { self.new ≡ first_turn arena point }
     {
-        let lead = if arena < 32 {
+        let step = if arena < 32 {
             point.next()
         } else {
-            Lead::Ends(Answered::NoArena(arena))
+            NextStep::Ends(Answered::NoArena(arena))
         };
-        self.stand(arena, lead);
+        self.stand(arena, step);
     }
 
     /// The same, but arena 0 stays.
@@ -221,7 +223,7 @@ impl Stage {
                 let (addr, class) = (region.addr, region.class);
                 self.end(region.arena, Answered::Ok(Given::Region { addr, class }));
             }
-            None => self.go(Lead::Ends(Answered::Ok(Given::Done))),
+            None => self.go(NextStep::Ends(Answered::Ok(Given::Done))),
         }
     }
 

@@ -9,10 +9,10 @@ ghost use Rattle.call_plan.specs.Needs.{Goes, GivesNone, HasFewAddresses, IsFed,
 ghost use Rattle.call_plan.specs.Reads.{aimed, ended_by, heard_next, taken_next};
 ghost use Rattle.call_plan.specs.Runs.{after, begin, desk_led, run, settle, stage, step_next};
 ghost use Rattle.call_plan.specs.Table.{op_at};
-ghost use Rattle.call_plan.specs.Stages.{Go, More, Turns, hears_next, led};
+ghost use Rattle.call_plan.specs.Stages.{Go, NextBatch, Turns, hears_next, led};
 ghost use Rattle.call_plan.specs.Clients.{DeskFacts};
 
-use crate::{Answered, Desk, Given, Item, Lead, Need, Request, Turn, TurnPoint};
+use crate::{Answered, Desk, Given, Item, Need, NextStep, Request, Turn, TurnPoint};
 use hook_api::Asked;
 use size_classes::{Addrs, class_pages};
 use space_model::{Addresses, Ask, Op};
@@ -25,7 +25,7 @@ use std::mem;
 #[derive(Drop)]
 pub struct Stage {
     pub(crate) arena: u32,
-    pub(crate) lead: Lead,
+    pub(crate) step: NextStep,
     pub(crate) heard: Option<Asked>,
 }
 
@@ -34,9 +34,9 @@ impl Model for Stage {
 
     ghost Value = { StageFacts };
 
-    ghost view = { λ s. record { arena = s.arena; next = led s.lead s.heard } };
+    ghost view = { λ s. record { arena = s.arena; next = led s.step s.heard } };
 
-    ghost invariant = { λ s. IsHeardAt s.lead s.heard };
+    ghost invariant = { λ s. IsHeardAt s.step s.heard };
 }
 
 /// The same addresses again.
@@ -184,26 +184,26 @@ impl Request {
 impl Stage {
     /// It stands nowhere yet.
     pub(crate) fn new() -> Stage
-        ensures { result ≡ stage 0 (led Lead.Nowhere None) }
+        ensures { result ≡ stage 0 (led NextStep.Nowhere None) }
     {
         Stage {
             arena: 0,
-            lead: Lead::Nowhere,
+            step: NextStep::Nowhere,
             heard: None,
         }
     }
 
-    /// It stands in the arena with this index, where this leads.
-    pub(crate) fn stand(&mut self, arena: u32, lead: Lead)
-        ensures { self.new ≡ stage arena (led lead None) }
+    /// It takes the next step in the arena with this index.
+    pub(crate) fn stand(&mut self, arena: u32, step: NextStep)
+        ensures { self.new ≡ stage arena (led step None) }
     {
         self.arena = arena;
-        self.go(lead);
+        self.go(step);
     }
 
     /// It stands at the next batch of regions that go back, which its turn names, or at the end. Takes no memory.
     pub(crate) fn go_on(&mut self, alloc: Global, request: &Request, desk: &Desk)
-        ensures stage { named request.now desk.now.facts self.new ≡ settle request.now desk.now.facts self.old.arena More }
+        ensures stage { named request.now desk.now.facts self.new ≡ settle request.now desk.now.facts self.old.arena NextBatch }
         ensures sized { IsSizedNext self.new.next }
     {
         match desk.next_arena(desk.hand(), request.flushes()) {
@@ -215,14 +215,14 @@ impl Stage {
         }
     }
 
-    /// It stands where this leads.
-    pub(crate) fn go(&mut self, lead: Lead)
-        ensures { self.new ≡ stage self.old.arena (led lead None) }
+    /// It takes the next step in its arena.
+    pub(crate) fn go(&mut self, step: NextStep)
+        ensures { self.new ≡ stage self.old.arena (led step None) }
     {
         if self.heard.is_some() {
             self.heard = None;
         }
-        self.lead = lead;
+        self.step = step;
     }
 
     /// Where a step led to no place yet, it stands at the one that this comes to by what the client has then. Takes no memory: the
@@ -235,14 +235,14 @@ impl Stage {
         ensures room { desk.new.room ≡ desk.old.room }
         ensures sized { IsSizedNext self.new.next }
     {
-        match self.lead {
-            Lead::More => self.go_on(alloc, request, desk),
-            Lead::Move(class) => self.move_to(alloc, request, class, desk),
-            Lead::Gone => self.go(Lead::Ends(Answered::NoArena(self.arena))),
-            Lead::Over(..) => {
-                let lead = mem::replace(&mut self.lead, Lead::Nowhere);
-                if let Lead::Over(arena, point) = lead {
-                    self.stand(arena, Lead::Turns(point));
+        match self.step {
+            NextStep::NextBatch => self.go_on(alloc, request, desk),
+            NextStep::Move(class) => self.move_to(alloc, request, class, desk),
+            NextStep::NotLive => self.go(NextStep::Ends(Answered::NoArena(self.arena))),
+            NextStep::InArena(..) => {
+                let step = mem::replace(&mut self.step, NextStep::Nowhere);
+                if let NextStep::InArena(arena, point) = step {
+                    self.stand(arena, NextStep::Turns(point));
                 }
             }
             _ => (),
@@ -256,7 +256,7 @@ impl Stage {
         ensures giving { OnErr result (IsGiving self.old.next) }
         ensures few { IsFewAddresses desk.now.facts self.old.next → IsOk result × HasFewAddresses self.new.next }
     {
-        if let Lead::Turns(TurnPoint::Giving(addrs)) = &self.lead {
+        if let NextStep::Turns(TurnPoint::Giving(addrs)) = &self.step {
             if addrs.as_slice().is_empty() {
                 let addrs = desk.addrs_going(alloc, desk.hand(), request.flushes(), self.arena)?;
                 self.go(TurnPoint::Giving(Addresses::new(addrs)).next());
@@ -273,8 +273,8 @@ impl Stage {
         ensures sized { IsSizedNext self.old.next → IsSizedNext self.new.next }
         ensures other { result ≡ false → self.new ≡ self.old }
     {
-        match (&self.lead, &self.heard, item) {
-            (Lead::Asks(_), None, Item::Told(asked)) => {
+        match (&self.step, &self.heard, item) {
+            (NextStep::Asks(_), None, Item::Told(asked)) => {
                 self.heard = Some(*asked);
                 true
             }
@@ -288,16 +288,16 @@ impl Stage {
         requires item { hears_next self.old.next (lent item) ≡ false }
         ensures { self.new ≡ stage self.old.arena (step_next self.old.next (lent item.entry)) }
     {
-        match (&self.lead, &self.heard, item) {
-            (Lead::Turns(_), _, Item::Replied(reply)) => self.lead.turned(reply),
-            (Lead::Turns(_), _, Item::Starved) => self.lead.starved(),
-            (Lead::Asks(point), Some(asked), Item::Replied(reply)) => {
+        match (&self.step, &self.heard, item) {
+            (NextStep::Turns(_), _, Item::Replied(reply)) => self.step.turned(reply),
+            (NextStep::Turns(_), _, Item::Starved) => self.step.starved(),
+            (NextStep::Asks(point), Some(asked), Item::Replied(reply)) => {
                 let point = *point;
-                point.told(asked, reply, &mut self.lead);
+                point.told(asked, reply, &mut self.step);
                 self.heard = None;
             }
-            (Lead::Tells(..), _, Item::Told(_)) => self.lead = TurnPoint::Dooming.next(),
-            _ => self.go(Lead::Nowhere),
+            (NextStep::Tells(..), _, Item::Told(_)) => self.step = TurnPoint::Dooming.next(),
+            _ => self.go(NextStep::Nowhere),
         }
     }
 
@@ -306,8 +306,8 @@ impl Stage {
         ensures some { IfSome result (λ answer. ended_by self.now.next ≡ Some answer.now) }
         ensures none { IfNone result (ended_by self.now.next ≡ None) }
     {
-        match &self.lead {
-            Lead::Ends(answer) => Some(answer),
+        match &self.step {
+            NextStep::Ends(answer) => Some(answer),
             _ => None,
         }
     }
@@ -320,15 +320,15 @@ impl Stage {
         ensures need { NeedIs client self.now.arena self.now.next need.new }
         ensures few { HasFewAddresses self.now.next → IsFed need.new }
     {
-        match (&self.lead, &self.heard) {
-            (Lead::Turns(point), _) => point.put_op(alloc, self.arena, client, need),
-            (Lead::Asks(point), None) => point.put_ask(self.arena, need),
-            (Lead::Asks(point), Some(asked)) => point.put_done(asked, self.arena, client, need),
-            (Lead::Tells(span, committed), _) => {
+        match (&self.step, &self.heard) {
+            (NextStep::Turns(point), _) => point.put_op(alloc, self.arena, client, need),
+            (NextStep::Asks(point), None) => point.put_ask(self.arena, need),
+            (NextStep::Asks(point), Some(asked)) => point.put_done(asked, self.arena, client, need),
+            (NextStep::Tells(span, committed), _) => {
                 let (span, committed) = (*span, *committed);
                 *need = ask(self.arena, Ask::Destroy { span, committed });
             }
-            (Lead::Ends(answer), _) => *need = Need::Done(*answer),
+            (NextStep::Ends(answer), _) => *need = Need::Done(*answer),
             _ => unreachable!(),
         }
     }
@@ -395,13 +395,13 @@ impl Model for Call {
 }
 
 impl Call {
-    /// A call that stands in the arena with this index, where this leads.
-    pub(crate) fn at(client: u32, request: Request, arena: u32, lead: Lead) -> Call
-        requires { IsCall (stage arena (led lead None)) }
-        ensures { result ≡ record { client = client; request = request; stage = stage arena (led lead None) } }
+    /// A call in the arena with this index, at this next step.
+    pub(crate) fn at(client: u32, request: Request, arena: u32, step: NextStep) -> Call
+        requires { IsCall (stage arena (led step None)) }
+        ensures { result ≡ record { client = client; request = request; stage = stage arena (led step None) } }
     {
         let mut stage = Stage::new();
-        stage.stand(arena, lead);
+        stage.stand(arena, step);
         Call {
             client,
             request,
@@ -478,8 +478,8 @@ impl Call {
     pub fn takes(&self) -> Option<u64>
         ensures { result ≡ taken_next self.now.stage.next }
     {
-        match &self.stage.lead {
-            Lead::Turns(
+        match &self.stage.step {
+            NextStep::Turns(
                 TurnPoint::Owning {
                     addr,
                     frees: true,
@@ -501,7 +501,7 @@ impl Call {
                 frees: true,
                 published: true,
             };
-            self.stage.lead = Lead::Turns(point);
+            self.stage.step = NextStep::Turns(point);
         }
     }
 

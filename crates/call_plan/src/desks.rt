@@ -7,7 +7,9 @@ ghost use Rattle.call_plan.specs.Items.{lent};
 ghost use Rattle.call_plan.specs.Points.{IsSizedNext, IsSizedTurn};
 ghost use Rattle.call_plan.specs.Stages.{Ends};
 
-use crate::{Answered, AskPoint, Change, Desk, Given, Item, Lead, Request, Stage, TurnPoint, Wish};
+use crate::{
+    Answered, AskPoint, Change, Desk, Given, Item, NextStep, Request, Stage, TurnPoint, Wish,
+};
 use size_classes::size_of;
 use space_model::Reply;
 use thread_cache::Held;
@@ -187,9 +189,11 @@ impl Stage {
         ensures facts { desk.new.facts ≡ desk_fed desk.old.facts self.now.arena self.now.next (lent item.entry) }
         ensures room { desk.old.room ≤ desk.new.room }
     {
-        match (&self.lead, &self.heard, item) {
-            (Lead::Turns(point), _, Item::Replied(reply)) => point.tell(desk, self.arena, reply),
-            (Lead::Asks(point), Some(_), Item::Replied(reply)) => point.tell(desk, reply),
+        match (&self.step, &self.heard, item) {
+            (NextStep::Turns(point), _, Item::Replied(reply)) => point.tell(
+                desk, self.arena, reply,
+            ),
+            (NextStep::Asks(point), Some(_), Item::Replied(reply)) => point.tell(desk, reply),
             _ => (),
         }
     }
@@ -201,7 +205,7 @@ impl Stage {
         ensures facts { desk.new.facts ≡ desk_closed request.now self.now.arena self.now.next desk.old.facts }
         ensures room { HasRoomToHold desk.new.facts desk.new.room self.now.next }
     {
-        if let Lead::Ends(answer) = &self.lead {
+        if let NextStep::Ends(answer) = &self.step {
             request.end(desk, self.arena, answer);
             desk.swap_back(matches!(answer, Answered::Ok(Given::Done)));
         }

@@ -4,15 +4,15 @@ ghost use Rattle.std.specs.Prelude.{◌≡◌, ℕ, None};
 ghost use Rattle.call_plan.specs.Table.{chunks_for, commit, got, grant, grow, need_chunks, skip_to, trim, turn_replied};
 ghost use Rattle.call_plan.specs.Stages.{Asks, Go, led};
 
-use crate::{Answered, AskPoint, Given, Lead, TurnPoint, Wish};
+use crate::{Answered, AskPoint, Given, NextStep, TurnPoint, Wish};
 use space_model::{CHUNK_PAGES, MAX_SERIES, Reply, Span};
 
 impl AskPoint {
     /// The ask comes next.
-    pub(crate) fn first(self) -> Lead
+    pub(crate) fn first(self) -> NextStep
         ensures { led result None ≡ Go (Asks self None) }
     {
-        Lead::Asks(self)
+        NextStep::Asks(self)
     }
 }
 
@@ -25,57 +25,57 @@ impl Wish {
     }
 
     /// The extent has the pages: it is committed, or the regions land in it.
-    pub(crate) fn commit(self, span: Span, committed: bool, lead: &mut Lead)
-        ensures { led lead.new None ≡ commit self span committed }
+    pub(crate) fn commit(self, span: Span, committed: bool, step: &mut NextStep)
+        ensures { led step.new None ≡ commit self span committed }
     {
         if committed {
-            *lead = TurnPoint::Landing(self, span).next();
+            *step = TurnPoint::Landing(self, span).next();
         } else {
-            *lead = AskPoint::Committing(self, span).first();
+            *step = AskPoint::Committing(self, span).first();
         }
     }
 
     /// A grant: what is too much of it is cut off.
-    pub(crate) fn grant(self, span: Span, committed: bool, lead: &mut Lead)
-        ensures { led lead.new None ≡ grant self span committed }
+    pub(crate) fn grant(self, span: Span, committed: bool, step: &mut NextStep)
+        ensures { led step.new None ≡ grant self span committed }
     {
         if self.pages < span.pages {
             let wish = self;
-            *lead = AskPoint::Granting {
+            *step = AskPoint::SplittingExact {
                 wish,
                 span,
                 committed,
             }
             .first();
         } else {
-            self.commit(span, committed, lead);
+            self.commit(span, committed, step);
         }
     }
 
     /// An unused extent: what stands behind the run is cut off.
-    pub(crate) fn trim(self, span: Span, committed: bool, lead: &mut Lead)
-        ensures { led lead.new None ≡ trim self span committed }
+    pub(crate) fn trim(self, span: Span, committed: bool, step: &mut NextStep)
+        ensures { led step.new None ≡ trim self span committed }
     {
         if self.pages < span.pages {
             let wish = self;
-            *lead = AskPoint::Trimming {
+            *step = AskPoint::Trimming {
                 wish,
                 span,
                 committed,
             }
             .first();
         } else {
-            self.commit(span, committed, lead);
+            self.commit(span, committed, step);
         }
     }
 
     /// An unused extent: what stands before the run is cut off.
-    fn skip_to(self, span: Span, committed: bool, skip: u64, lead: &mut Lead)
-        ensures { led lead.new None ≡ skip_to self span committed skip }
+    fn skip_to(self, span: Span, committed: bool, skip: u64, step: &mut NextStep)
+        ensures { led step.new None ≡ skip_to self span committed skip }
     {
         if 0 < skip {
             let wish = self;
-            *lead = AskPoint::Skipping {
+            *step = AskPoint::Skipping {
                 wish,
                 span,
                 committed,
@@ -83,79 +83,79 @@ impl Wish {
             }
             .first();
         } else {
-            self.trim(span, committed, lead);
+            self.trim(span, committed, step);
         }
     }
 
     /// Just as many chunks as are needed are asked for.
-    pub(crate) fn need_chunks(self) -> Lead
+    pub(crate) fn need_chunks(self) -> NextStep
         ensures { led result None ≡ need_chunks self }
     {
-        AskPoint::Needing(self).first()
+        AskPoint::GrowingExactly(self).first()
     }
 
     /// The arena grows by the chunks of the series, if these are more than are needed.
-    fn grow(self, series: u64, lead: &mut Lead)
-        ensures { led lead.new None ≡ grow self series }
+    fn grow(self, series: u64, step: &mut NextStep)
+        ensures { led step.new None ≡ grow self series }
     {
         let chunks = series.min(MAX_SERIES);
         if self.chunks() < chunks {
-            *lead = AskPoint::Growing(self, chunks).first();
+            *step = AskPoint::Growing(self, chunks).first();
         } else {
-            *lead = self.need_chunks();
+            *step = self.need_chunks();
         }
     }
 
     /// After the reply to the look for an unused extent.
-    pub(crate) fn looked(self, reply: &Reply, lead: &mut Lead)
-        ensures { led lead.new None ≡ turn_replied (TurnPoint.Looking self) reply.now }
+    pub(crate) fn looked(self, reply: &Reply, step: &mut NextStep)
+        ensures { led step.new None ≡ turn_replied (TurnPoint.Looking self) reply.now }
     {
         match *reply {
             Reply::Took {
                 span,
                 committed,
                 skip,
-            } => self.skip_to(span, committed, skip, lead),
-            Reply::Grow { series } => self.grow(series, lead),
-            Reply::NoArena => *lead = Lead::Gone,
-            _ => *lead = Lead::Nowhere,
+            } => self.skip_to(span, committed, skip, step),
+            Reply::Grow { series } => self.grow(series, step),
+            Reply::NoArena => *step = NextStep::NotLive,
+            _ => *step = NextStep::Nowhere,
         }
     }
 
     /// The region at the address is the answer, or takes the place of the one in hand.
-    fn got(self, addr: u64, lead: &mut Lead)
-        ensures { led lead.new None ≡ got self addr }
+    fn got(self, addr: u64, step: &mut NextStep)
+        ensures { led step.new None ≡ got self addr }
     {
         let class = self.class;
         if self.moves {
-            *lead = Lead::More;
+            *step = NextStep::NextBatch;
         } else {
-            *lead = Lead::Ends(Answered::Ok(Given::Region { addr, class }));
+            *step = NextStep::Ends(Answered::Ok(Given::Region { addr, class }));
         }
     }
 
     /// After the landing.
-    pub(crate) fn landed(self, reply: &Reply, lead: &mut Lead)
-        ensures { (span : Span) → led lead.new None ≡ turn_replied (TurnPoint.Landing self span) reply.now }
+    pub(crate) fn landed(self, reply: &Reply, step: &mut NextStep)
+        ensures { (span : Span) → led step.new None ≡ turn_replied (TurnPoint.Landing self span) reply.now }
     {
         match *reply {
-            Reply::Landed { first, .. } => self.got(first, lead),
-            _ => *lead = Lead::Nowhere,
+            Reply::Landed { first, .. } => self.got(first, step),
+            _ => *step = NextStep::Nowhere,
         }
     }
 
     /// After free regions of a small class were looked for.
-    pub(crate) fn filled(self, reply: &Reply, lead: &mut Lead)
-        ensures { (count : ℕ) → led lead.new None ≡ turn_replied (TurnPoint.Filling self count) reply.now }
+    pub(crate) fn filled(self, reply: &Reply, step: &mut NextStep)
+        ensures { (count : ℕ) → led step.new None ≡ turn_replied (TurnPoint.Filling self count) reply.now }
     {
         match *reply {
             Reply::Regions(ref addrs) => match addrs.as_slice().first() {
-                Some(addr) => self.got(*addr, lead),
-                None => *lead = Lead::Nowhere,
+                Some(addr) => self.got(*addr, step),
+                None => *step = NextStep::Nowhere,
             },
-            Reply::Nothing => *lead = Lead::Turns(TurnPoint::Looking(self)),
-            Reply::NoArena => *lead = Lead::Gone,
-            _ => *lead = Lead::Nowhere,
+            Reply::Nothing => *step = NextStep::Turns(TurnPoint::Looking(self)),
+            Reply::NoArena => *step = NextStep::NotLive,
+            _ => *step = NextStep::Nowhere,
         }
     }
 }

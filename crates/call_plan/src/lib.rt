@@ -31,5 +31,5 @@ pub use laws::{
     purges_are_few, refusals_stand, rooms_suffice, steps_keep, wants_stand,
 };
 pub use needs::{Answered, Given, Item, Need, Request, Turn};
-pub use points::{AskPoint, Change, Lead, Resize, Then, TurnPoint, Visit, Wish};
+pub use points::{AfterFlight, AskPoint, Change, NextStep, Resize, TurnPoint, Visit, Wish};
 pub use soon::whole_fit;

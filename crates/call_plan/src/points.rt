@@ -45,7 +45,7 @@ pub struct Visit {
 
 /// What follows once the client has nothing in flight any more.
 #[derive(Clone, Copy)]
-pub enum Then {
+pub enum AfterFlight {
     /// The next batch of regions that go back, or the end.
     Batches,
     /// The visit goes on, with at most so many more extents.
@@ -85,12 +85,12 @@ pub enum TurnPoint {
         /// Whether it wasn't purged yet.
         fresh: bool,
         /// What follows.
-        then: Then,
+        then: AfterFlight,
     },
     /// An extent of a visit is taken out of its list, at most so many of them, or as many as there are at the first.
     Taking(Visit, Option<u64>),
     /// The extent is to be offered to its hook.
-    Offering(Span, Then),
+    Offering(Span, AfterFlight),
     /// The decays are told this moment.
     Advancing(u64),
     /// A setting changes.
@@ -146,7 +146,7 @@ pub enum AskPoint {
     /// The alloc of so many chunks, which are more than the pages need.
     Growing(Wish, u64),
     /// The split of what that alloc granted.
-    Paring {
+    SplittingGrown {
         /// What is wanted.
         wish: Wish,
         /// The extent.
@@ -155,9 +155,9 @@ pub enum AskPoint {
         committed: bool,
     },
     /// The alloc of as many chunks as the pages need.
-    Needing(Wish),
+    GrowingExactly(Wish),
     /// The split of what that alloc granted.
-    Granting {
+    SplittingExact {
         /// What is wanted.
         wish: Wish,
         /// The extent.
@@ -178,16 +178,16 @@ pub enum AskPoint {
         /// Whether that wasn't purged yet.
         fresh: bool,
         /// What follows.
-        then: Then,
+        then: AfterFlight,
     },
     /// The lazy purge of an extent.
-    Easing(Span, Then),
+    PurgingLazily(Span, AfterFlight),
     /// The dalloc of an extent that was offered.
-    Returning(Span, Then),
+    Returning(Span, AfterFlight),
     /// The decommit of an extent that the hook left with the arena.
-    Decommitting(Span, Then),
+    Decommitting(Span, AfterFlight),
     /// The forced purge of one that it left committed too.
-    Forcing(Span, Then),
+    Forcing(Span, AfterFlight),
     /// The split of the region's extent: the low piece serves it from then on.
     Cutting(Resize),
     /// The alloc of the chunks that the region lacks, right behind it.
@@ -207,9 +207,9 @@ pub enum AskPoint {
     Joining(Resize, Span),
 }
 
-/// Where a call waits, or where an item leads. What a hook answered to an ask stands beside it.
+/// What a call does next: where it waits, or where an item leads. What a hook answered to an ask stands beside it.
 #[derive(Drop)]
-pub enum Lead {
+pub enum NextStep {
     /// For the reply to a turn.
     Turns(TurnPoint),
     /// For the answer to an ask, or, where it is there, for the reply to the turn that takes it in.
@@ -217,13 +217,13 @@ pub enum Lead {
     /// For the ask that destroys an extent of an arena that has ended, committed or not. No turn takes its answer in.
     Tells(Span, bool),
     /// To a turn of the arena with this index.
-    Over(u32, TurnPoint),
+    InArena(u32, TurnPoint),
     /// To the turn that gives the next batch of regions back, or to the end.
-    More,
+    NextBatch,
     /// To a region of the class, which takes the place of the one in hand.
     Move(u8),
     /// To the end, since the arena isn't live.
-    Gone,
+    NotLive,
     /// To an answer.
     Ends(Answered),
     /// Nowhere: it is none that could come.

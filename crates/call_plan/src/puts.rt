@@ -4,15 +4,15 @@ ghost use Rattle.std.specs.Prelude.{◌≡◌, None};
 ghost use Rattle.call_plan.specs.Table.{beside, decommitted, dirty_visit, drop, eased, forced, visit_gives, look_on, merged, onward, put_next, put_purged, returned, turn_replied, visit_all, visited};
 ghost use Rattle.call_plan.specs.Stages.{Asks, Go, Turns, led};
 
-use crate::{Answered, AskPoint, Given, Lead, Then, TurnPoint, Visit};
+use crate::{AfterFlight, Answered, AskPoint, Given, NextStep, TurnPoint, Visit};
 use space_model::{Reply, Rest, Span};
 
 impl TurnPoint {
     /// The turn comes next.
-    pub(crate) fn next(self) -> Lead
+    pub(crate) fn next(self) -> NextStep
         ensures { led result None ≡ Go (Turns self) }
     {
-        Lead::Turns(self)
+        NextStep::Turns(self)
     }
 }
 
@@ -48,57 +48,60 @@ impl Visit {
     }
 
     /// What follows it: a visit of the dirty extents after that of the muzzy ones, where these are visited too, or the answer.
-    fn visited(&self, lead: &mut Lead)
-        ensures { led lead.new None ≡ visited self.now }
+    fn visited(&self, step: &mut NextStep)
+        ensures { led step.new None ≡ visited self.now }
     {
         match (self.rest, self.other) {
-            (Rest::Muzzy, Some(keep)) => *lead = Visit::dirty(
+            (Rest::Muzzy, Some(keep)) => *step = Visit::dirty(
                 keep,
                 Some(self.keep),
                 self.told,
             ).first(),
-            _ => *lead = Lead::Ends(Answered::Ok(self.given())),
+            _ => *step = NextStep::Ends(Answered::Ok(self.given())),
         }
     }
 
     /// Its first extent is taken.
-    pub(crate) fn first(self) -> Lead
+    pub(crate) fn first(self) -> NextStep
         ensures { led result None ≡ visit_all self }
     {
         TurnPoint::Taking(self, None).next()
     }
 
     /// After an extent was taken, if one was.
-    pub(crate) fn took(&self, left: Option<u64>, reply: &Reply, lead: &mut Lead)
-        ensures { led lead.new None ≡ turn_replied (TurnPoint.Taking self.now left) reply.now }
+    pub(crate) fn took(&self, left: Option<u64>, reply: &Reply, step: &mut NextStep)
+        ensures { led step.new None ≡ turn_replied (TurnPoint.Taking self.now left) reply.now }
     {
         match *reply {
             Reply::Taken { span, lazy, listed } => {
                 let left = left.unwrap_or(listed).saturating_sub(1);
-                Then::Visiting(*self, left).drop_extent(span, lazy, lead);
+                AfterFlight::Visiting(*self, left).drop_extent(span, lazy, step);
             }
-            Reply::Nothing => self.visited(lead),
-            Reply::NoArena => *lead = Lead::Gone,
-            _ => *lead = Lead::Nowhere,
+            Reply::Nothing => self.visited(step),
+            Reply::NoArena => *step = NextStep::NotLive,
+            _ => *step = NextStep::Nowhere,
         }
     }
 }
 
-impl Then {
+impl AfterFlight {
     /// What follows once nothing is in flight.
-    fn onward(&self, lead: &mut Lead)
-        ensures { led lead.new None ≡ onward self.now }
+    fn onward(&self, step: &mut NextStep)
+        ensures { led step.new None ≡ onward self.now }
     {
         match *self {
-            Then::Batches => *lead = Lead::More,
-            Then::Moving(class) => *lead = Lead::Move(class),
-            Then::Visiting(visit, 0) => visit.visited(lead),
-            Then::Visiting(visit, left) => *lead = TurnPoint::Taking(visit, Some(left)).next(),
+            AfterFlight::Batches => *step = NextStep::NextBatch,
+            AfterFlight::Moving(class) => *step = NextStep::Move(class),
+            AfterFlight::Visiting(visit, 0) => visit.visited(step),
+            AfterFlight::Visiting(visit, left) => *step = TurnPoint::Taking(
+                visit,
+                Some(left),
+            ).next(),
         }
     }
 
     /// An extent in flight looks for a neighbour.
-    fn find(&self, own: Span, tries: u8, fresh: bool) -> Lead
+    fn find(&self, own: Span, tries: u8, fresh: bool) -> NextStep
         ensures { led result None ≡ Go (Turns (TurnPoint.Finding own tries fresh self.now)) }
     {
         TurnPoint::Finding {
@@ -112,30 +115,30 @@ impl Then {
 
     /// The next extent in flight is put down, or there is none.
     #[inline(always)]
-    pub(crate) fn put_next(&self, next: Option<Span>, lead: &mut Lead)
-        ensures { led lead.new None ≡ put_next self.now next }
+    pub(crate) fn put_next(&self, next: Option<Span>, step: &mut NextStep)
+        ensures { led step.new None ≡ put_next self.now next }
     {
         match next {
-            Some(own) => *lead = self.find(own, 0, true),
-            None => self.onward(lead),
+            Some(own) => *step = self.find(own, 0, true),
+            None => self.onward(step),
         }
     }
 
     /// The extent is merged with the neighbour that its look found.
-    fn beside(&self, own: Span, tries: u8, fresh: bool, other: Span, lead: &mut Lead)
-        ensures { led lead.new None ≡ beside own tries fresh other self.now }
+    fn beside(&self, own: Span, tries: u8, fresh: bool, other: Span, step: &mut NextStep)
+        ensures { led step.new None ≡ beside own tries fresh other self.now }
     {
         if tries == 0 && u128::from(other.first) == own.end() {
-            *lead = self.merge(own, other, true, fresh);
+            *step = self.merge(own, other, true, fresh);
         } else if tries < 2 {
-            *lead = self.merge(other, own, false, fresh);
+            *step = self.merge(other, own, false, fresh);
         } else {
-            *lead = Lead::Nowhere;
+            *step = NextStep::Nowhere;
         }
     }
 
     /// Two extents are merged.
-    fn merge(&self, low: Span, high: Span, own_low: bool, fresh: bool) -> Lead
+    fn merge(&self, low: Span, high: Span, own_low: bool, fresh: bool) -> NextStep
         ensures { led result None ≡ Go (Asks (AskPoint.Merging low high own_low fresh self.now) None) }
     {
         AskPoint::Merging {
@@ -149,102 +152,109 @@ impl Then {
     }
 
     /// After a merge the extent that stays in flight looks on.
-    pub(crate) fn look_on(&self, own: Span, own_low: bool, fresh: bool) -> Lead
+    pub(crate) fn look_on(&self, own: Span, own_low: bool, fresh: bool) -> NextStep
         ensures { led result None ≡ look_on own own_low fresh self.now }
     {
         self.find(own, if own_low { 1 } else { 2 }, fresh)
     }
 
     /// An extent that was purged is put down.
-    pub(crate) fn put_purged(&self, own: Span) -> Lead
+    pub(crate) fn put_purged(&self, own: Span) -> NextStep
         ensures { led result None ≡ put_purged own self.now }
     {
         self.find(own, 0, false)
     }
 
     /// An extent is purged lazily, or offered to its hook.
-    pub(crate) fn drop_extent(&self, span: Span, lazy: bool, lead: &mut Lead)
-        ensures { led lead.new None ≡ drop span lazy self.now }
+    pub(crate) fn drop_extent(&self, span: Span, lazy: bool, step: &mut NextStep)
+        ensures { led step.new None ≡ drop span lazy self.now }
     {
         if lazy {
-            *lead = AskPoint::Easing(span, *self).first();
+            *step = AskPoint::PurgingLazily(span, *self).first();
         } else {
-            *lead = TurnPoint::Offering(span, *self).next();
+            *step = TurnPoint::Offering(span, *self).next();
         }
     }
 
     /// After the look for a neighbour.
-    pub(crate) fn found(&self, own: Span, tries: u8, fresh: bool, reply: &Reply, lead: &mut Lead)
-        ensures { led lead.new None ≡ turn_replied (TurnPoint.Finding own tries fresh self.now) reply.now }
+    pub(crate) fn found(
+        &self,
+        own: Span,
+        tries: u8,
+        fresh: bool,
+        reply: &Reply,
+        step: &mut NextStep,
+    )
+        ensures { led step.new None ≡ turn_replied (TurnPoint.Finding own tries fresh self.now) reply.now }
     {
         match *reply {
-            Reply::Beside(other) => self.beside(own, tries, fresh, other, lead),
-            Reply::Next(next) => self.put_next(next, lead),
-            Reply::Purge { lazy } => self.drop_extent(own, lazy, lead),
-            _ => *lead = Lead::Nowhere,
+            Reply::Beside(other) => self.beside(own, tries, fresh, other, step),
+            Reply::Next(next) => self.put_next(next, step),
+            Reply::Purge { lazy } => self.drop_extent(own, lazy, step),
+            _ => *step = NextStep::Nowhere,
         }
     }
 
     /// After the offer of an extent.
-    pub(crate) fn offered(&self, span: Span, reply: &Reply, lead: &mut Lead)
-        ensures { led lead.new None ≡ turn_replied (TurnPoint.Offering span self.now) reply.now }
+    pub(crate) fn offered(&self, span: Span, reply: &Reply, step: &mut NextStep)
+        ensures { led step.new None ≡ turn_replied (TurnPoint.Offering span self.now) reply.now }
     {
         match *reply {
-            Reply::Noted => *lead = AskPoint::Returning(span, *self).first(),
-            _ => *lead = Lead::Nowhere,
+            Reply::Noted => *step = AskPoint::Returning(span, *self).first(),
+            _ => *step = NextStep::Nowhere,
         }
     }
 
     /// After a merge.
-    pub(crate) fn merged(&self, own_low: bool, fresh: bool, reply: &Reply, lead: &mut Lead)
-        ensures { led lead.new None ≡ merged own_low fresh self.now reply.now }
+    pub(crate) fn merged(&self, own_low: bool, fresh: bool, reply: &Reply, step: &mut NextStep)
+        ensures { led step.new None ≡ merged own_low fresh self.now reply.now }
     {
         match *reply {
-            Reply::Joined(own) => *lead = self.look_on(own, own_low, fresh),
-            _ => *lead = Lead::Nowhere,
+            Reply::Joined(own) => *step = self.look_on(own, own_low, fresh),
+            _ => *step = NextStep::Nowhere,
         }
     }
 
     /// After a lazy purge.
-    pub(crate) fn eased(&self, span: Span, reply: &Reply, lead: &mut Lead)
-        ensures { led lead.new None ≡ eased span self.now reply.now }
+    pub(crate) fn eased(&self, span: Span, reply: &Reply, step: &mut NextStep)
+        ensures { led step.new None ≡ eased span self.now reply.now }
     {
         match *reply {
-            Reply::Lazy(true) => *lead = self.put_purged(span),
-            Reply::Lazy(false) => *lead = TurnPoint::Offering(span, *self).next(),
-            _ => *lead = Lead::Nowhere,
+            Reply::Lazy(true) => *step = self.put_purged(span),
+            Reply::Lazy(false) => *step = TurnPoint::Offering(span, *self).next(),
+            _ => *step = NextStep::Nowhere,
         }
     }
 
     /// After a dalloc.
-    pub(crate) fn returned(&self, span: Span, reply: &Reply, lead: &mut Lead)
-        ensures { led lead.new None ≡ returned span self.now reply.now }
+    pub(crate) fn returned(&self, span: Span, reply: &Reply, step: &mut NextStep)
+        ensures { led step.new None ≡ returned span self.now reply.now }
     {
         match *reply {
-            Reply::Next(next) | Reply::Abandoned(next) => self.put_next(next, lead),
-            Reply::Kept => *lead = AskPoint::Decommitting(span, *self).first(),
-            _ => *lead = Lead::Nowhere,
+            Reply::Next(next) | Reply::Abandoned(next) => self.put_next(next, step),
+            Reply::Kept => *step = AskPoint::Decommitting(span, *self).first(),
+            _ => *step = NextStep::Nowhere,
         }
     }
 
     /// After a decommit.
-    pub(crate) fn decommitted(&self, span: Span, reply: &Reply, lead: &mut Lead)
-        ensures { led lead.new None ≡ decommitted span self.now reply.now }
+    pub(crate) fn decommitted(&self, span: Span, reply: &Reply, step: &mut NextStep)
+        ensures { led step.new None ≡ decommitted span self.now reply.now }
     {
         match *reply {
-            Reply::Decommitted(true) => *lead = self.put_purged(span),
-            Reply::Decommitted(false) => *lead = AskPoint::Forcing(span, *self).first(),
-            _ => *lead = Lead::Nowhere,
+            Reply::Decommitted(true) => *step = self.put_purged(span),
+            Reply::Decommitted(false) => *step = AskPoint::Forcing(span, *self).first(),
+            _ => *step = NextStep::Nowhere,
         }
     }
 
     /// After a forced purge.
-    pub(crate) fn forced(&self, span: Span, reply: &Reply, lead: &mut Lead)
-        ensures { led lead.new None ≡ forced span self.now reply.now }
+    pub(crate) fn forced(&self, span: Span, reply: &Reply, step: &mut NextStep)
+        ensures { led step.new None ≡ forced span self.now reply.now }
     {
         match *reply {
-            Reply::Noted => *lead = self.put_purged(span),
-            _ => *lead = Lead::Nowhere,
+            Reply::Noted => *step = self.put_purged(span),
+            _ => *step = NextStep::Nowhere,
         }
     }
 }

@@ -9,7 +9,7 @@ ghost use Rattle.call_plan.specs.Runs.{are_large, begin_desk, begin_realloc, beg
 ghost use Rattle.call_plan.specs.Stages.{Move};
 
 use crate::begins::{get, share};
-use crate::{Answered, Desk, Lead, Request, Resize, Stage, TurnPoint};
+use crate::{Answered, Desk, NextStep, Request, Resize, Stage, TurnPoint};
 use size_classes::{CLASSES, SMALL_CLASSES, class_of, class_pages};
 use std::alloc::{AllocError as NoMemory, Global};
 use thread_cache::Held;

@@ -5,7 +5,7 @@ ghost use Rattle.call_plan.specs.Points.{IsFewPages};
 ghost use Rattle.call_plan.specs.Stages.{led};
 ghost use Rattle.call_plan.specs.Table.{alloc_behind, back, backed, behind, extend, extended, lacks, move, narrowed, own_span, spare, spared, turn_replied, widened};
 
-use crate::{AskPoint, Lead, Resize, Then, TurnPoint};
+use crate::{AfterFlight, AskPoint, NextStep, Resize, TurnPoint};
 use size_classes::{PAGE_BYTES, class_pages};
 use space_model::{Ask, CHUNK_PAGES, Reply, Span};
 
@@ -51,133 +51,133 @@ impl Resize {
     }
 
     /// Another region takes its place.
-    fn move_off(self) -> Lead
+    fn move_off(self) -> NextStep
         ensures { led result None ≡ move self }
     {
-        Lead::Move(self.class)
+        NextStep::Move(self.class)
     }
 
     /// The pages that it lacks are committed, or its extent is merged with them.
-    fn back(self, span: Span, committed: bool, lead: &mut Lead)
-        ensures { led lead.new None ≡ back self span committed }
+    fn back(self, span: Span, committed: bool, step: &mut NextStep)
+        ensures { led step.new None ≡ back self span committed }
     {
         if committed {
-            *lead = AskPoint::Joining(self, span).first();
+            *step = AskPoint::Joining(self, span).first();
         } else {
-            *lead = AskPoint::Backing(self, span).first();
+            *step = AskPoint::Backing(self, span).first();
         }
     }
 
     /// What stands behind the pages that it lacks is cut off.
-    fn spare(self, span: Span, committed: bool, lead: &mut Lead)
+    fn spare(self, span: Span, committed: bool, step: &mut NextStep)
         requires { IsFewPages self }
-        ensures { led lead.new None ≡ spare self span committed }
+        ensures { led step.new None ≡ spare self span committed }
     {
         if self.lacks() < span.pages {
             let resize = self;
-            *lead = AskPoint::Sparing {
+            *step = AskPoint::Sparing {
                 resize,
                 span,
                 committed,
             }
             .first();
         } else {
-            self.back(span, committed, lead);
+            self.back(span, committed, step);
         }
     }
 
     /// A grant right behind it serves. Any other one is put down, and another region takes its place.
-    fn extend(self, span: Span, committed: bool, lead: &mut Lead)
+    fn extend(self, span: Span, committed: bool, step: &mut NextStep)
         requires { IsFewPages self }
-        ensures { led lead.new None ≡ extend self span committed }
+        ensures { led step.new None ≡ extend self span committed }
     {
         if span.first == self.behind() {
-            self.spare(span, committed, lead);
+            self.spare(span, committed, step);
         } else {
-            Then::Moving(self.class).put_next(Some(span), lead);
+            AfterFlight::Moving(self.class).put_next(Some(span), step);
         }
     }
 
     /// After the look for the pages behind it.
-    pub(crate) fn looked(self, reply: &Reply, lead: &mut Lead)
+    pub(crate) fn looked(self, reply: &Reply, step: &mut NextStep)
         requires { IsFewPages self }
-        ensures { led lead.new None ≡ turn_replied (TurnPoint.Widening self) reply.now }
+        ensures { led step.new None ≡ turn_replied (TurnPoint.Widening self) reply.now }
     {
         match *reply {
             Reply::Took {
                 span,
                 committed,
                 ..
-            } => self.spare(span, committed, lead),
-            Reply::Noted => *lead = AskPoint::Extending(self).first(),
-            Reply::Nothing => *lead = self.move_off(),
-            _ => *lead = Lead::Nowhere,
+            } => self.spare(span, committed, step),
+            Reply::Noted => *step = AskPoint::Extending(self).first(),
+            Reply::Nothing => *step = self.move_off(),
+            _ => *step = NextStep::Nowhere,
         }
     }
 
     /// After it was told to be cut.
-    pub(crate) fn begun(self, reply: &Reply, lead: &mut Lead)
-        ensures { led lead.new None ≡ turn_replied (TurnPoint.Narrowing self) reply.now }
+    pub(crate) fn begun(self, reply: &Reply, step: &mut NextStep)
+        ensures { led step.new None ≡ turn_replied (TurnPoint.Narrowing self) reply.now }
     {
         match *reply {
-            Reply::Noted => *lead = AskPoint::Cutting(self).first(),
-            _ => *lead = Lead::Nowhere,
+            Reply::Noted => *step = AskPoint::Cutting(self).first(),
+            _ => *step = NextStep::Nowhere,
         }
     }
 
     /// After the split of its extent.
-    pub(crate) fn narrowed(self, reply: &Reply, lead: &mut Lead)
-        ensures { led lead.new None ≡ narrowed self reply.now }
+    pub(crate) fn narrowed(self, reply: &Reply, step: &mut NextStep)
+        ensures { led step.new None ≡ narrowed self reply.now }
     {
         match *reply {
-            Reply::Cut(high) => Then::Batches.put_next(Some(high), lead),
-            Reply::Whole => *lead = self.move_off(),
-            _ => *lead = Lead::Nowhere,
+            Reply::Cut(high) => AfterFlight::Batches.put_next(Some(high), step),
+            Reply::Whole => *step = self.move_off(),
+            _ => *step = NextStep::Nowhere,
         }
     }
 
     /// After the alloc of the chunks that it lacks.
-    pub(crate) fn extended(self, reply: &Reply, lead: &mut Lead)
+    pub(crate) fn extended(self, reply: &Reply, step: &mut NextStep)
         requires { IsFewPages self }
-        ensures { led lead.new None ≡ extended self reply.now }
+        ensures { led step.new None ≡ extended self reply.now }
     {
         match *reply {
-            Reply::Refused | Reply::Bad(_) => *lead = self.move_off(),
-            Reply::Grown { span, committed } => self.extend(span, committed, lead),
-            _ => *lead = Lead::Nowhere,
+            Reply::Refused | Reply::Bad(_) => *step = self.move_off(),
+            Reply::Grown { span, committed } => self.extend(span, committed, step),
+            _ => *step = NextStep::Nowhere,
         }
     }
 
     /// After the split of what stands behind the pages that it lacks.
-    pub(crate) fn spared(self, committed: bool, reply: &Reply, lead: &mut Lead)
-        ensures { led lead.new None ≡ spared self committed reply.now }
+    pub(crate) fn spared(self, committed: bool, reply: &Reply, step: &mut NextStep)
+        ensures { led step.new None ≡ spared self committed reply.now }
     {
         match *reply {
-            Reply::Cut(low) => self.back(low, committed, lead),
-            Reply::Whole => *lead = self.move_off(),
-            _ => *lead = Lead::Nowhere,
+            Reply::Cut(low) => self.back(low, committed, step),
+            Reply::Whole => *step = self.move_off(),
+            _ => *step = NextStep::Nowhere,
         }
     }
 
     /// After the commit of these pages.
-    pub(crate) fn backed(self, span: Span, reply: &Reply, lead: &mut Lead)
-        ensures { led lead.new None ≡ backed self span reply.now }
+    pub(crate) fn backed(self, span: Span, reply: &Reply, step: &mut NextStep)
+        ensures { led step.new None ≡ backed self span reply.now }
     {
         match *reply {
-            Reply::Noted => *lead = AskPoint::Joining(self, span).first(),
-            Reply::Whole => *lead = self.move_off(),
-            _ => *lead = Lead::Nowhere,
+            Reply::Noted => *step = AskPoint::Joining(self, span).first(),
+            Reply::Whole => *step = self.move_off(),
+            _ => *step = NextStep::Nowhere,
         }
     }
 
     /// After the merge with them.
-    pub(crate) fn widened(self, reply: &Reply, lead: &mut Lead)
-        ensures { led lead.new None ≡ widened self reply.now }
+    pub(crate) fn widened(self, reply: &Reply, step: &mut NextStep)
+        ensures { led step.new None ≡ widened self reply.now }
     {
         match *reply {
-            Reply::Landed { .. } => *lead = Lead::More,
-            Reply::Whole => *lead = self.move_off(),
-            _ => *lead = Lead::Nowhere,
+            Reply::Landed { .. } => *step = NextStep::NextBatch,
+            Reply::Whole => *step = self.move_off(),
+            _ => *step = NextStep::Nowhere,
         }
     }
 }

@@ -8,27 +8,27 @@ ghost use Rattle.call_plan.specs.Table.{turn_replied};
 ghost use Rattle.call_plan.specs.Stages.{led};
 
 use crate::settings::{advanced, doomed, emptied, made, owned, published};
-use crate::{Answered, Lead, Then, TurnPoint};
+use crate::{AfterFlight, Answered, NextStep, TurnPoint};
 use space_model::Reply;
 
 /// After regions went back.
-fn gave(reply: &Reply, lead: &mut Lead)
-    ensures { (addrs : List ℕ) → led lead.new None ≡ turn_replied (TurnPoint.Giving addrs) reply.now }
+fn gave(reply: &Reply, step: &mut NextStep)
+    ensures { (addrs : List ℕ) → led step.new None ≡ turn_replied (TurnPoint.Giving addrs) reply.now }
 {
     match *reply {
-        Reply::Next(next) => Then::Batches.put_next(next, lead),
-        _ => *lead = Lead::Nowhere,
+        Reply::Next(next) => AfterFlight::Batches.put_next(next, step),
+        _ => *step = NextStep::Nowhere,
     }
 }
 
-impl Lead {
+impl NextStep {
     /// Where it waits for the reply to a turn, it becomes where that leads.
     pub(crate) fn turned(&mut self, reply: &Reply)
         requires { IsSizedNext (led self.old None) }
         ensures { led self.new None ≡ step_next (led self.old None) (Replied reply.now) }
     {
-        let Lead::Turns(point) = self else {
-            *self = Lead::Nowhere;
+        let NextStep::Turns(point) = self else {
+            *self = NextStep::Nowhere;
             return;
         };
         match *point {
@@ -63,11 +63,11 @@ impl Lead {
         ensures { led self.new None ≡ step_next (led self.old None) Starved }
     {
         *self = match self {
-            Lead::Turns(
+            NextStep::Turns(
                 TurnPoint::Landing(..) | TurnPoint::Finding { .. } | TurnPoint::Offering(..),
-            ) => Lead::Nowhere,
-            Lead::Turns(_) => Lead::Ends(Answered::NoMemory),
-            _ => Lead::Nowhere,
+            ) => NextStep::Nowhere,
+            NextStep::Turns(_) => NextStep::Ends(Answered::NoMemory),
+            _ => NextStep::Nowhere,
         };
     }
 }

@@ -10,7 +10,7 @@ use Rattle.call_plan.specs.Items.{Item, Replied, Told, Starved}
 use Rattle.space_model.specs.declared.Reply.TheVariants.{Nothing}
 use Rattle.call_plan.specs.declared.points.AskPoint.TheVariants.{Skipping}
 use Rattle.call_plan.specs.declared.points.TurnPoint.TheVariants.{Filling, Dooming}
-use Rattle.call_plan.specs.Stages.{Point, Turns, Asks, Tells, Next, Go, Over, More, Move, Gone, Ends, Nowhere}
+use Rattle.call_plan.specs.Stages.{Point, Turns, Asks, Tells, Next, Go, InArena, NextBatch, Move, NotLive, Ends, Nowhere}
 use Rattle.hook_api.specs.Asked.{AskFacts}
 use Rattle.space_model.specs.declared.Ask.{Ask}
 use Rattle.call_plan.specs.Runs.{Moment, after, begin, settle, step_next}
@@ -20,7 +20,7 @@ use Rattle.deeds.specs.Dids.{HasBox, asks_next, asks_point}
 
 -- a call goes over only to a turn
 abbrev OverTurns : Next → Type 0
-OverTurns (Over index point) = asks_point point ≡ false
+OverTurns (InArena index point) = asks_point point ≡ false
 OverTurns next = Unit {0}
 
 over_turns : (next : Next) (item : Item) → OverTurns (step_next next item)
@@ -35,10 +35,10 @@ move_turns request arena class desk = grind (arith, nat_tests)
 -- where a step leads to an ask, it is of the same arena
 settled_box : (request : Request) (desk : DeskFacts) (arena : ℕ) (next : Next) → OverTurns next → asks_next (settle request desk arena next).next ≡ true → (settle request desk arena next).arena ≡ arena
 settled_box request desk arena (Go point) over asks = refl
-settled_box request desk arena (Over index point) over asks = absurd (cc)
-settled_box request desk arena More over asks = absurd (grind arith)
+settled_box request desk arena (InArena index point) over asks = absurd (cc)
+settled_box request desk arena NextBatch over asks = absurd (grind arith)
 settled_box request desk arena (Move class) over asks = let none = move_turns request arena class desk in absurd (cc)
-settled_box request desk arena Gone over asks = refl
+settled_box request desk arena NotLive over asks = refl
 settled_box request desk arena (Ends answer) over asks = refl
 settled_box request desk arena Nowhere over asks = refl
 

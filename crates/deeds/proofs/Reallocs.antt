@@ -7,13 +7,13 @@ use Rattle.space_model.specs.Slabs.{most_regions}
 use Rattle.call_plan.specs.declared.clients.Swapped.{Swapped}
 use Rattle.thread_cache.specs.declared.Held.{Held}
 use Rattle.call_plan.specs.declared.points.Wish.{Wish}
-use Rattle.call_plan.specs.declared.points.Then.{Then}
-use Rattle.call_plan.specs.declared.points.Then.TheVariants.{Batches, Moving}
+use Rattle.call_plan.specs.declared.points.AfterFlight.{AfterFlight}
+use Rattle.call_plan.specs.declared.points.AfterFlight.TheVariants.{Batches, Moving}
 use Rattle.call_plan.specs.declared.points.TurnPoint.{TurnPoint}
 use Rattle.call_plan.specs.declared.points.TurnPoint.TheVariants.{Filling, Looking, Landing, Giving, Finding, Offering, Widening, Narrowing}
 use Rattle.call_plan.specs.declared.points.AskPoint.{AskPoint}
-use Rattle.call_plan.specs.declared.points.AskPoint.TheVariants.{Skipping, Trimming, Growing, Paring, Needing, Granting, Committing, Merging, Easing, Returning, Decommitting, Forcing, Cutting, Extending, Sparing, Backing, Joining}
-use Rattle.call_plan.specs.Stages.{Point, Turns, Asks, Next, Go, Over, More, Move, Gone, Ends, Nowhere, Stage}
+use Rattle.call_plan.specs.declared.points.AskPoint.TheVariants.{Skipping, Trimming, Growing, SplittingGrown, GrowingExactly, SplittingExact, Committing, Merging, PurgingLazily, Returning, Decommitting, Forcing, Cutting, Extending, Sparing, Backing, Joining}
+use Rattle.call_plan.specs.Stages.{Point, Turns, Asks, Next, Go, InArena, NextBatch, Move, NotLive, Ends, Nowhere, Stage}
 use Rattle.call_plan.specs.declared.needs.Request.TheVariants.{Realloc}
 use Rattle.call_plan.specs.declared.needs.Given.TheVariants.{Region}
 use Rattle.call_plan.specs.declared.needs.Answered.{Answered}
@@ -34,7 +34,7 @@ use Rattle.deeds.specs.Reallocs.{AfterReallocOf, HoldsBoth, ReallocsLeave, Remai
 abbrev gets : ℕ → Wish → Bool
 gets class wish = wish.moves && wish.class == class
 
-abbrev is_moving : ℕ → Then → Bool
+abbrev is_moving : ℕ → AfterFlight → Bool
 is_moving class (Moving to) = to == class
 is_moving class later = false
 
@@ -52,12 +52,12 @@ abbrev before_ask : ℕ → AskPoint → Bool
 before_ask class (Skipping wish span b skip) = gets class wish
 before_ask class (Trimming wish span b) = gets class wish
 before_ask class (Growing wish chunks) = gets class wish
-before_ask class (Paring wish span b) = gets class wish
-before_ask class (Needing wish) = gets class wish
-before_ask class (Granting wish span b) = gets class wish
+before_ask class (SplittingGrown wish span b) = gets class wish
+before_ask class (GrowingExactly wish) = gets class wish
+before_ask class (SplittingExact wish span b) = gets class wish
 before_ask class (Committing wish span) = gets class wish
 before_ask class (Merging low high own_low fresh later) = is_moving class later
-before_ask class (Easing span later) = is_moving class later
+before_ask class (PurgingLazily span later) = is_moving class later
 before_ask class (Returning span later) = is_moving class later
 before_ask class (Decommitting span later) = is_moving class later
 before_ask class (Forcing span later) = is_moving class later
@@ -78,12 +78,12 @@ abbrev is_before : ℕ → Next → Bool
 is_before class (Go (Turns point)) = before_turn class point
 is_before class (Go (Asks point heard)) = before_ask class point
 is_before class (Move to) = to == class
-is_before class Gone = true
+is_before class NotLive = true
 is_before class (Ends answer) = is_refusal answer
 is_before class Nowhere = true
 is_before class next = false
 
-abbrev gives_back : Then → Bool
+abbrev gives_back : AfterFlight → Bool
 gives_back Batches = true
 gives_back later = false
 
@@ -95,7 +95,7 @@ behind_turn point = false
 
 abbrev behind_ask : AskPoint → Bool
 behind_ask (Merging low high own_low fresh later) = gives_back later
-behind_ask (Easing span later) = gives_back later
+behind_ask (PurgingLazily span later) = gives_back later
 behind_ask (Returning span later) = gives_back later
 behind_ask (Decommitting span later) = gives_back later
 behind_ask (Forcing span later) = gives_back later
@@ -108,7 +108,7 @@ is_no_memory answer = false
 abbrev is_behind : Next → Bool
 is_behind (Go (Turns point)) = behind_turn point
 is_behind (Go (Asks point heard)) = behind_ask point
-is_behind More = true
+is_behind NextBatch = true
 is_behind (Ends answer) = is_no_memory answer
 is_behind Nowhere = true
 is_behind next = false
@@ -494,18 +494,18 @@ module _ (addr size : ℕ) (had : DeskFacts) where
   moves_on old desk arena next (Some found) before =
       let mid : DeskFacts = hitting (class_for size) desk in
       let is = gaining_is (class_for size) old (record found { class = class_for size }) mid before.hand refl in
-      all_go old (gaining (record found { class = class_for size }) mid) arena More (behind_from addr (class_for size) old had mid (gaining (record found { class = class_for size }) mid) More before.held before.swapped is refl refl)
+      all_go old (gaining (record found { class = class_for size }) mid) arena NextBatch (behind_from addr (class_for size) old had mid (gaining (record found { class = class_for size }) mid) NextBatch before.held before.swapped is refl refl)
 
   -- where it goes
   before_settles : (old : Held) (desk : DeskFacts) (arena : ℕ) (next : Next) → Before addr (class_for size) old had desk next →
       ClosedAt old (desk_led desk next) (settle (Realloc addr size) desk arena next)
   before_settles old desk arena (Go point) before = inl before
-  before_settles old desk arena (Over index point) before = absurd (let there = before.there in cc)
-  before_settles old desk arena More before = absurd (let there = before.there in cc)
+  before_settles old desk arena (InArena index point) before = absurd (let there = before.there in cc)
+  before_settles old desk arena NextBatch before = absurd (let there = before.there in cc)
   before_settles old desk arena (Move to) before =
       subst (λ n. ClosedAt old (desk_moved n (hit n desk) desk) (move_stage (Realloc addr size) arena n (hit n desk) desk)) (sym (eqb-true to (class_for size) before.there))
       (moves_on old desk arena (Move to) (hit (class_for size) desk) before)
-  before_settles old desk arena Gone before = remains addr (class_for size) old had desk Gone false before
+  before_settles old desk arena NotLive before = remains addr (class_for size) old had desk NotLive false before
   before_settles old desk arena (Ends (Refused asked)) before = remains addr (class_for size) old had desk (Ends (Refused asked)) false before
   before_settles old desk arena (Ends (BadAnswer span why)) before = remains addr (class_for size) old had desk (Ends (BadAnswer span why)) false before
   before_settles old desk arena (Ends NoMemory) before = inl (remains addr (class_for size) old had desk (Ends NoMemory) false before)
@@ -515,10 +515,10 @@ module _ (addr size : ℕ) (had : DeskFacts) where
   behind_settles : (old : Held) (desk : DeskFacts) (arena : ℕ) (next : Next) → Behind addr (class_for size) old had desk next →
       ClosedAt old (desk_led desk next) (settle (Realloc addr size) desk arena next)
   behind_settles old desk arena (Go point) behind = inr behind
-  behind_settles old desk arena (Over index point) behind = absurd (let there = behind.there in cc)
-  behind_settles old desk arena More behind = all_go old desk arena More behind
+  behind_settles old desk arena (InArena index point) behind = absurd (let there = behind.there in cc)
+  behind_settles old desk arena NextBatch behind = all_go old desk arena NextBatch behind
   behind_settles old desk arena (Move to) behind = absurd (let there = behind.there in cc)
-  behind_settles old desk arena Gone behind = absurd (let there = behind.there in cc)
+  behind_settles old desk arena NotLive behind = absurd (let there = behind.there in cc)
   behind_settles old desk arena (Ends NoMemory) behind = inr (both addr (class_for size) old had desk (Ends NoMemory) false behind (behind.lacks refl))
   behind_settles old desk arena (Ends answer) behind = absurd (let there = behind.there in cc)
   behind_settles old desk arena Nowhere behind = inr behind
@@ -584,8 +584,8 @@ module _ (addr size : ℕ) (had : DeskFacts) where
           (cond v (all_done old.arena (Some old)) (cond (are_large class old.class) (stage old.arena (Go (Turns (resize_at class old)))) (move_stage (Realloc addr size) old.arena class (hit class desk) desk)))
       same_or true is = (
         sym (eqb-true class old.class is),
-        replaced addr class old (held_region old.arena old.class old.addr) had (reclassing class desk) More false
-            (behind_from addr class old had desk (reclassing class desk) More refl rests.swapped (reclassing_is class old desk refl) refl refl),
+        replaced addr class old (held_region old.arena old.class old.addr) had (reclassing class desk) NextBatch false
+            (behind_from addr class old had desk (reclassing class desk) NextBatch refl rests.swapped (reclassing_is class old desk refl) refl refl),
       )
       same_or false differ = moved_or (are_large class old.class)
 

@@ -1,5 +1,5 @@
 -- The laws of the clients of a heap, and that the clients of a new one rest.
-use Rattle.heap_core.proofs.Words.{AreArenas, ◌≡◌, ℕ, ◌+◌, ◌<◌, ◌≤◌, ◌==◌, true, false, cond, List, [], All, refl, sym, ap, subst, arith, suc, zero, get_or, replicate, count_by, range_with_len, nat_tests, All-nil, absent_space, first_space, Mine, mine, Held, no_record, opening_records, mine_in, Record, opening_space, OpeningSits, is_region, is_in, cases_lt, inl, inr, rules, ◌≢◌, ◌*◌, ◌&&◌, ◌||◌, Bool, IsTrue, ◌∷◌, Option, None, Some, length, max, ◌∙◌, lt-ltb, list_any, get_or-set_same, All-cons, sum_by-cons, Publish, holds_at, is_live, emptied_by_op, room_after, room_of, not_holding, Request, Flush, Wish, Then, Change, TurnPoint, Filling, Looking, Landing, Giving, Resetting, Destroying, Publishing, AskPoint, Skipping, Point, Turns, Asks, Tells, Next, Go, Op, Setting, Space, Part, Span, DeskFacts, BatchFacts, held_at, CallFacts, Alone, Flies, Gets, GivesBack, HasOffered, Idle, Knows, KnowsAsk, KnowsTurn, HasPair, is_held, KnowsNext, Ready, flying, needed_at, batch_goes, stage, batches-know, live_where, region_found, IsArenas, record_after, record_at, room_in, CanTurn, IsIdle, after_turn, AimsSit, HasRegions, HoldersPublish, IsSeated, IsTheHand, Sits, SitsAt, Suits, SuitsAsk, SuitsChange, SuitsGet, SuitsThen, SuitsTurn, or-false}
+use Rattle.heap_core.proofs.Words.{AreArenas, ◌≡◌, ℕ, ◌+◌, ◌<◌, ◌≤◌, ◌==◌, true, false, cond, List, [], All, refl, sym, ap, subst, arith, suc, zero, get_or, replicate, count_by, range_with_len, nat_tests, All-nil, absent_space, first_space, Mine, mine, Held, no_record, opening_records, mine_in, Record, opening_space, OpeningSits, is_region, is_in, cases_lt, inl, inr, rules, ◌≢◌, ◌*◌, ◌&&◌, ◌||◌, Bool, IsTrue, ◌∷◌, Option, None, Some, length, max, ◌∙◌, lt-ltb, list_any, get_or-set_same, All-cons, sum_by-cons, Publish, holds_at, is_live, emptied_by_op, room_after, room_of, not_holding, Request, Flush, Wish, AfterFlight, Change, TurnPoint, Filling, Looking, Landing, Giving, Resetting, Destroying, Publishing, AskPoint, Skipping, Point, Turns, Asks, Tells, Next, Go, Op, Setting, Space, Part, Span, DeskFacts, BatchFacts, held_at, CallFacts, Alone, Flies, Gets, GivesBack, HasOffered, Idle, Knows, KnowsAsk, KnowsTurn, HasPair, is_held, KnowsNext, Ready, flying, needed_at, batch_goes, stage, batches-know, live_where, region_found, IsArenas, record_after, record_at, room_in, CanTurn, IsIdle, after_turn, AimsSit, HasRegions, HoldersPublish, IsSeated, IsTheHand, Sits, SitsAt, Suits, SuitsAsk, SuitsChange, SuitsGet, SuitsThen, SuitsTurn, or-false}
 use Rattle.sits.specs.Sitting.{IsInClasses}
 use Rattle.call_plan.proofs.Lists.{any_weaker}
 use Rattle.call_plan.proofs.Words.{both_true}
@@ -31,7 +31,7 @@ held_as held desk = record desk { held = held }
 get_held : (held : List (ℕ × Held)) (desk : DeskFacts) (arena : ℕ) (moves : Bool) (class count : ℕ) → SuitsGet desk arena moves class count → SuitsGet (held_as held desk) arena moves class count
 get_held held desk arena moves class count suits = record { empty = suits.empty; none = suits.none; own = suits.own; slots = suits.slots }
 
-later_held : (held : List (ℕ × Held)) (desk : DeskFacts) (later : Then) → SuitsThen desk later → SuitsThen (held_as held desk) later
+later_held : (held : List (ℕ × Held)) (desk : DeskFacts) (later : AfterFlight) → SuitsThen desk later → SuitsThen (held_as held desk) later
 later_held held desk later suits = grind arith
 
 change_held : (held : List (ℕ × Held)) (desk : DeskFacts) (arena : ℕ) (setting : Setting) (change : Change) → SuitsChange desk arena setting change → SuitsChange (held_as held desk) arena setting change

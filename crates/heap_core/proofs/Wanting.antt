@@ -1,12 +1,12 @@
 -- What a client's open call wants, and where a step for it leads.
-use Rattle.heap_core.proofs.Words.{◌≡◌, ◌≤◌, ℕ, ◌+◌, true, false, List, Option, None, Some, IfSome, IsSomeAnd, refl, sym, ap, subst, ◌∙◌, arith, opens, Item, Told, Starved, Answered, NoMemory, Point, Next, Go, Ends, Op, Ask, AskFacts, DeskFacts, NeedsTurn, NeedsAsk, Turn, CallFacts, moment_of, desk_fed, Goes, NeedIs, NeedsWant, heard_next, Moment, Stage, after, moved, named, named_call, moment_at, begins_named, not_holding, option_map, aimed, taken_next, step_next, Want, WantTurn, WantAsk, is_marked, step, want, room_in, FedTo, never_starves, HeapFacts, asks_at, asks_next, owing, Record, Seat, answer_of, heard_by, seat_at, seat_of, IsSeated, SeatSound, Sits, SitsAt, IsMarked, Needs, StarvesAt, StarvesNext, TakesAt, nat_tests, Request, Replied, Filling, Skipping, Turns, Asks, Over, Nothing, begin, begin_desk, begin_stage, closed, stage, Held, HasRoomToHold, started, ended_by, open_call}
+use Rattle.heap_core.proofs.Words.{◌≡◌, ◌≤◌, ℕ, ◌+◌, true, false, List, Option, None, Some, IfSome, IsSomeAnd, refl, sym, ap, subst, ◌∙◌, arith, opens, Item, Told, Starved, Answered, NoMemory, Point, Next, Go, Ends, Op, Ask, AskFacts, DeskFacts, NeedsTurn, NeedsAsk, Turn, CallFacts, moment_of, desk_fed, Goes, NeedIs, NeedsWant, heard_next, Moment, Stage, after, moved, named, named_call, moment_at, begins_named, not_holding, option_map, aimed, taken_next, step_next, Want, WantTurn, WantAsk, is_marked, step, want, room_in, FedTo, never_starves, HeapFacts, asks_at, asks_next, owing, Record, Seat, answer_of, heard_by, seat_at, seat_of, IsSeated, SeatSound, Sits, SitsAt, IsMarked, Needs, StarvesAt, StarvesNext, TakesAt, nat_tests, Request, Replied, Filling, Skipping, Turns, Asks, InArena, Nothing, begin, begin_desk, begin_stage, closed, stage, Held, HasRoomToHold, started, ended_by, open_call}
 use Rattle.std.specs.Prelude.{Result, Ok, Err, OnOk, OnErr}
 use Rattle.call_plan.specs.Desks.{meant, ready}
 use Rattle.std.proofs.lemmas.Bool.{cond_both}
 use Rattle.std.specs.Prelude.{◌==◌, ◌^◌, nat_lt}
 use Rattle.call_plan.specs.Desks.{flushes}
 use Rattle.call_plan.specs.Runs.{all_goes, are_large, batch_goes, begin_realloc, begin_resize, desk_moved, get, gives, move_stage, resize_at, share}
-use Rattle.call_plan.specs.Stages.{More, Move, Gone, Nowhere}
+use Rattle.call_plan.specs.Stages.{NextBatch, Move, NotLive, Nowhere}
 use Rattle.call_plan.specs.declared.needs.Request.TheVariants.{Realloc}
 use Rattle.size_classes.specs.Classes.{class_for}
 use Rattle.call_plan.specs.Clients.{BatchFacts, batch_of, going, held_at, hit, resizing}
@@ -167,7 +167,7 @@ few_asks room point = grind (arith, nat_tests)
 
 -- a call goes over only to a turn that takes memory
 abbrev pub OverOpens : Next → Type 0
-OverOpens (Over index point) = (room : ℕ) → asks_at room point ≡ 0
+OverOpens (InArena index point) = (room : ℕ) → asks_at room point ≡ 0
 OverOpens next = Unit {0}
 
 next_opens : (next : Next) (item : Item) → OverOpens (step_next next item)
@@ -203,10 +203,10 @@ owed_move records c n request desk arena class (Some region) = owed_goes records
 owed_moved : (records : List Record) (c n : ℕ) (request : Request) (desk : DeskFacts) (arena : ℕ) (next : Next) → room_in records arena c + 1 ≤ n → OverOpens next →
     owing records c (seat_of c (moved request desk arena next)).call ≤ n
 owed_moved records c n request desk arena (Go point) enough opens = omega (arith, enough, few_asks (room_in records arena c) point)
-owed_moved records c n request desk arena (Over index point) enough opens = omega (arith, opens (room_in records index c))
-owed_moved records c n request desk arena More enough opens = owed_goes records c n request desk arena
+owed_moved records c n request desk arena (InArena index point) enough opens = omega (arith, opens (room_in records index c))
+owed_moved records c n request desk arena NextBatch enough opens = owed_goes records c n request desk arena
 owed_moved records c n request desk arena (Move class) enough opens = owed_move records c n request desk arena class (hit class desk)
-owed_moved records c n request desk arena Gone enough opens = omega arith
+owed_moved records c n request desk arena NotLive enough opens = omega arith
 owed_moved records c n request desk arena (Ends answer) enough opens = omega arith
 owed_moved records c n request desk arena Nowhere enough opens = omega arith
 

@@ -9,7 +9,7 @@ pub use Rattle.call_plan.specs.Needs.{Goes, NeedIs}
 pub use Rattle.call_plan.specs.Reads.{aimed, ended_by, heard_next, taken_next}
 pub use Rattle.call_plan.specs.Runs.{Moment, after, begin}
 pub use Rattle.call_plan.specs.Table.{Want, WantAsk, WantTurn, is_marked, op_at, step, want}
-pub use Rattle.call_plan.specs.Words.{Alloc, Answer, AnswersTo, Ask, AskFacts, Asks, Dalloc, DeskFacts, Ends, Go, Held, Item, Mine, Next, Op, Over, Placed, Point, Refuses, Replied, Reply, Setting, Space, Span, Stage, Starved, Tells, Told, Turns, held_at, mine}
+pub use Rattle.call_plan.specs.Words.{Alloc, Answer, AnswersTo, Ask, AskFacts, Asks, Dalloc, DeskFacts, Ends, Go, Held, Item, Mine, Next, Op, InArena, Placed, Point, Refuses, Replied, Reply, Setting, Space, Span, Stage, Starved, Tells, Told, Turns, held_at, mine}
 pub use Rattle.call_plan.specs.declared.needs.Answered.{Answered}
 pub use Rattle.call_plan.specs.declared.needs.Answered.TheVariants.{NoMemory}
 pub use Rattle.call_plan.specs.declared.needs.Need.{Need}
@@ -19,7 +19,7 @@ pub use Rattle.call_plan.specs.declared.needs.Turn.{Turn}
 pub use Rattle.call_plan.specs.declared.points.AskPoint.{AskPoint}
 pub use Rattle.call_plan.specs.declared.points.AskPoint.TheVariants.{Skipping}
 pub use Rattle.call_plan.specs.declared.points.Change.{Change}
-pub use Rattle.call_plan.specs.declared.points.Then.{Then}
+pub use Rattle.call_plan.specs.declared.points.AfterFlight.{AfterFlight}
 pub use Rattle.call_plan.specs.declared.points.TurnPoint.{TurnPoint}
 pub use Rattle.call_plan.specs.declared.points.TurnPoint.TheVariants.{Destroying, Filling, Giving, Landing, Looking, Owning, Publishing, Resetting}
 pub use Rattle.call_plan.specs.declared.points.Wish.{Wish}

@@ -11,15 +11,9 @@ use crate::heaps::{Boxes, Ctx, SharedHeap};
 use call_plan::{Answered, Given, Request};
 use deeds::Doing;
 use hook_api::{ExtentHooks, SharedShelf};
-use space_model::{Counts, Op, Reply, Rest};
+use space_model::{Counts, DIRTY_MS, MUZZY_MS, Op, Reply, Rest};
 use std::alloc::{AllocError as NoMemory, Global};
 use std::sync::Wait;
-
-/// The decay time of the dirty extents of an arena that is created, in milliseconds.
-const DIRTY_MS: i64 = 10000;
-
-/// The decay time of its muzzy extents.
-const MUZZY_MS: i64 = 0;
 
 /// The boxes of all arenas, once one was created, or not, as the answer says.
 fn with_box(mut boxes: Boxes, box_no: u32, answer: &Answered) -> Boxes

@@ -3,4 +3,4 @@
 
 mod table;
 
-pub use table::{CHUNK_PAGES, CHUNKS, PAGES, PageMap};
+pub use table::{CHUNK_PAGES, LEAVES, PAGES, PageMap};

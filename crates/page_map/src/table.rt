@@ -14,10 +14,10 @@ pub const PAGES: u64 = 1 << 29;
 /// How many pages a chunk has: chunk `c` has the pages from `512 * c` on.
 pub const CHUNK_PAGES: u64 = 512;
 
-/// Chunks are numbered below this bound.
-pub const CHUNKS: u64 = PAGES / CHUNK_PAGES;
+/// How many leaves there may be, one a chunk: chunks are numbered below this bound.
+pub const LEAVES: u64 = PAGES / CHUNK_PAGES;
 
-const ROOT: usize = CHUNKS as usize;
+const ROOT: usize = LEAVES as usize;
 
 const LEAF: usize = CHUNK_PAGES as usize;
 
@@ -138,7 +138,7 @@ impl PageMap {
 
     // Gives a chunk without a leaf a spare one.
     fn give_leaf(&mut self, chunk: usize)
-        requires chunk { chunk < CHUNKS }
+        requires chunk { chunk < LEAVES }
         requires bare { set.contains self.old.chunks chunk ≡ false }
         requires spare { 0 < self.old.spare }
         ensures { self.new ≡ with_leaf self.old chunk }

@@ -1,5 +1,5 @@
 -- The leaves that are left after chunks got some.
-use Rattle.part_book.proofs.Words.{◌≡◌, ℕ, ◌+◌, ◌-◌, ◌/◌, ◌<◌, ◌≤◌, min, Bool, true, false, not, cond, eqb, ◌||◌, List, length, filter, count_by, refl, sym, ap, ◌∙◌, subst, arith, Contains, nat_cmp, range_with_len, unsigned_tied, nat_cmp_total, eq-eqb, filter_agree, sum_by-filter_both, count_by-le-length, length-filter, get_or-range_with_len, length-range_with_len, filter_has, Pages, CHUNKS, Span, IsPlaced, end_of, HasLeaves, HasMore, leaves_for, missing, bit, count_some, filter_neither, nat_tests}
+use Rattle.part_book.proofs.Words.{◌≡◌, ℕ, ◌+◌, ◌-◌, ◌/◌, ◌<◌, ◌≤◌, min, Bool, true, false, not, cond, eqb, ◌||◌, List, length, filter, count_by, refl, sym, ap, ◌∙◌, subst, arith, Contains, nat_cmp, range_with_len, unsigned_tied, nat_cmp_total, eq-eqb, filter_agree, sum_by-filter_both, count_by-le-length, length-filter, get_or-range_with_len, length-range_with_len, filter_has, Pages, LEAVES, Span, IsPlaced, end_of, HasLeaves, HasMore, leaves_for, missing, bit, count_some, filter_neither, nat_tests}
 use Rattle.std.specs.FinSet as set
 
 -- a chunk is in a set to which another one was added where it is that one or was in it
@@ -42,14 +42,14 @@ lacking_less s c n l f =
     omega (arith, lacking_after s c range, count_some (λ k. not (set.contains s k)) (filter (λ k. eqb k c) range) c here (ap not f))
 
 -- a chunk that gets a leaf is missing one no more
-missing_less : (s : set.FinSet nat_cmp) (c : ℕ) → c < CHUNKS → set.contains s c ≡ false → missing (set.insert s c) + 1 ≤ missing s
+missing_less : (s : set.FinSet nat_cmp) (c : ℕ) → c < LEAVES → set.contains s c ≡ false → missing (set.insert s c) + 1 ≤ missing s
 unfolding missing
-missing_less s c l f = lacking_less s c CHUNKS l f
+missing_less s c l f = lacking_less s c LEAVES l f
 
 -- and no other one is missing then
 missing_no_more : (s : set.FinSet nat_cmp) (c : ℕ) → missing (set.insert s c) ≤ missing s
 unfolding missing
-missing_no_more s c = lacking_no_more s c (range_with_len 0 CHUNKS)
+missing_no_more s c = lacking_no_more s c (range_with_len 0 LEAVES)
 
 -- one for a chunk without a leaf
 abbrev want : Bool → ℕ
@@ -65,14 +65,14 @@ abbrev pub wanted : Pages → ℕ → ℕ
 wanted p c = want (set.contains p.chunks c)
 
 -- there is a leaf for a chunk that wants one
-pub has_leaf : (p : Pages) (c n : ℕ) → c < CHUNKS → HasLeaves p (n + wanted p c) → set.contains p.chunks c ≡ false → 0 < p.spare
+pub has_leaf : (p : Pages) (c n : ℕ) → c < LEAVES → HasLeaves p (n + wanted p c) → set.contains p.chunks c ≡ false → 0 < p.spare
 has_leaf p c n l has f =
     let some = missing_less p.chunks c l f in
     let one : wanted p c ≡ 1 = ap want f in
     omega arith
 
 -- the leaves that are left after a chunk got its leaf
-pub leaves_after : (p q : Pages) (c n : ℕ) → c < CHUNKS → q.chunks ≡ set.insert p.chunks c → q.spare ≡ cond (set.contains p.chunks c) p.spare (p.spare - 1) → HasLeaves p (n + wanted p c) → HasLeaves q n
+pub leaves_after : (p q : Pages) (c n : ℕ) → c < LEAVES → q.chunks ≡ set.insert p.chunks c → q.spare ≡ cond (set.contains p.chunks c) p.spare (p.spare - 1) → HasLeaves p (n + wanted p c) → HasLeaves q n
 leaves_after p q c n l chunks spare has = grind (arith, nat_tests, missing_less, missing_no_more)
 
 -- a chunk wants no more after another one got its leaf
@@ -80,15 +80,15 @@ pub wanted_less : (p q : Pages) (k c : ℕ) → q.chunks ≡ set.insert p.chunks
 wanted_less p q k c chunks = grind (arith, chunks, contains_kept p.chunks k c, want_le (set.contains q.chunks c))
 
 -- the chunks of the first and the last page of a span
-pub chunk_inside : (s : Span) → IsPlaced s → (s.first / 512 < CHUNKS) × ((end_of s - 1) / 512 < CHUNKS)
+pub chunk_inside : (s : Span) → IsPlaced s → (s.first / 512 < LEAVES) × ((end_of s - 1) / 512 < LEAVES)
 chunk_inside s placed = (omega arith, omega arith)
 
-missing_most : (s : set.FinSet nat_cmp) → missing s ≤ CHUNKS
+missing_most : (s : set.FinSet nat_cmp) → missing s ≤ LEAVES
 unfolding missing
-missing_most s = subst (λ n. count_by (λ chunk. not (set.contains s chunk)) (range_with_len 0 CHUNKS) ≤ n) (length-range_with_len 0 CHUNKS) (count_by-le-length (λ chunk. not (set.contains s chunk)) (range_with_len 0 CHUNKS))
+missing_most s = subst (λ n. count_by (λ chunk. not (set.contains s chunk)) (range_with_len 0 LEAVES) ≤ n) (length-range_with_len 0 LEAVES) (count_by-le-length (λ chunk. not (set.contains s chunk)) (range_with_len 0 LEAVES))
 
 -- leaves for all chunks are enough for any number of extents
-pub leaves_enough : (p : Pages) (n : ℕ) → min CHUNKS n ≤ p.spare → HasLeaves p n
+pub leaves_enough : (p : Pages) (n : ℕ) → min LEAVES n ≤ p.spare → HasLeaves p n
 leaves_enough p n le = omega (arith, missing_most p.chunks)
 
 pub more_leaves : (p q : Pages) (n : ℕ) → q.chunks ≡ p.chunks → p.spare ≤ q.spare → HasLeaves p n → HasLeaves q n

@@ -27,7 +27,7 @@ pub use Rattle.ordered_set.proofs.Sorted.{every_member, every_map, filter_all}
 pub use Rattle.ordered_set.specs.Keys.{IsAscending, is_above, is_from, key_cmp, is_below, last_of, without_key}
 pub use Rattle.ordered_set.specs.declared.key.Key.{Key}
 pub use Rattle.page_map.specs.Pages.{Pages}
-pub use Rattle.page_map.specs.declared.table.TheConstants.{CHUNKS}
+pub use Rattle.page_map.specs.declared.table.TheConstants.{LEAVES}
 pub use Rattle.space_model.specs.Fit.{fit, fit_of, is_best, is_better, is_candidate}
 pub use Rattle.space_model.specs.Part.{is_active, is_listed, begins_at, exchanged, is_flight, is_flight_at, is_unused}
 pub use Rattle.space_model.specs.Resizing.{is_spare}

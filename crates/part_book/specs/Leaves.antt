@@ -6,11 +6,11 @@ use Rattle.std.specs.FinSet as set
 use Rattle.space_model.specs.declared.parts.Span.{Span}
 use Rattle.space_model.specs.Span.{end_of}
 use Rattle.page_map.specs.Pages.{Pages}
-use Rattle.page_map.specs.declared.table.TheConstants.{CHUNKS}
+use Rattle.page_map.specs.declared.table.TheConstants.{LEAVES}
 
 -- how many chunks have no leaf
 unfoldable pub missing : set.FinSet nat_cmp → ℕ
-missing chunks = count_by (λ chunk. not (set.contains chunks chunk)) (range_with_len 0 CHUNKS)
+missing chunks = count_by (λ chunk. not (set.contains chunks chunk)) (range_with_len 0 LEAVES)
 
 -- the spare leaves are so many, or as many as chunks have none
 abbrev pub HasLeaves : Pages → ℕ → Type 0

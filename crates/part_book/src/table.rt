@@ -7,7 +7,7 @@ ghost use Rattle.part_book.specs.Tables.{HasRoomFor, IsRowTable, KeepsExtents, p
 
 use age_ring::AgeRing;
 use ordered_set::OrderedSet;
-use page_map::{CHUNKS, PageMap};
+use page_map::{LEAVES, PageMap};
 use space_model::{Part, Span, State};
 use std::alloc::{AllocError as NoMemory, Global};
 
@@ -95,7 +95,7 @@ impl Table {
         )?;
         self.sizes.reserve(all)?;
         self.firsts.reserve(more)?;
-        self.edges.reserve(CHUNKS.min(more.saturating_mul(2)))?;
+        self.edges.reserve(LEAVES.min(more.saturating_mul(2)))?;
         reserve_numbers(
             &mut self.slots,
             &mut self.free,

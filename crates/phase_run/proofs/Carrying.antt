@@ -8,7 +8,7 @@ use Rattle.back_purge.proofs.Making.{dids_append}
 use Rattle.call_plan.specs.Clients.{DeskFacts, hit}
 use Rattle.call_plan.specs.Desks.{desk_fed, meant, ready}
 use Rattle.call_plan.specs.Runs.{Moment, after, all_goes, begin, begin_stage, move_stage, settle, step_next}
-use Rattle.call_plan.specs.Stages.{Asks, Ends, Go, Gone, More, Move, Next, Nowhere, Over, Point, Tells, Turns}
+use Rattle.call_plan.specs.Stages.{Asks, Ends, Go, NotLive, NextBatch, Move, Next, Nowhere, InArena, Point, Tells, Turns}
 use Rattle.call_plan.specs.Table.{done_at, is_marked, starved, step, told, turn_replied, want}
 use Rattle.call_plan.specs.declared.needs.Answered.{Answered}
 use Rattle.call_plan.specs.declared.needs.Request.{Request}
@@ -46,7 +46,7 @@ owed_at point = []
 
 abbrev owed : Next → List AskFacts
 owed (Go point) = owed_at point
-owed (Over index point) = owed_at point
+owed (InArena index point) = owed_at point
 owed next = []
 
 abbrev dooms_at : Point → Bool
@@ -57,7 +57,7 @@ dooms_at point = false
 
 abbrev dooms : Next → Bool
 dooms (Go point) = dooms_at point
-dooms (Over index point) = dooms_at point
+dooms (InArena index point) = dooms_at point
 dooms next = false
 
 abbrev destroys : Request → Bool
@@ -100,10 +100,10 @@ move_dooms request arena class desk = grind (arith, nat_tests)
 
 settled_dooms : (request : Request) (desk : DeskFacts) (arena : ℕ) (next : Next) → dooms next ≡ false → dooms (settle request desk arena next).next ≡ false
 settled_dooms request desk arena (Go point) none = none
-settled_dooms request desk arena (Over index point) none = none
-settled_dooms request desk arena More none = more_dooms request desk arena
+settled_dooms request desk arena (InArena index point) none = none
+settled_dooms request desk arena NextBatch none = more_dooms request desk arena
 settled_dooms request desk arena (Move class) none = move_dooms request arena class desk
-settled_dooms request desk arena Gone none = refl
+settled_dooms request desk arena NotLive none = refl
 settled_dooms request desk arena (Ends answer) none = refl
 settled_dooms request desk arena Nowhere none = refl
 

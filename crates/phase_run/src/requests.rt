@@ -6,16 +6,11 @@ ghost use Rattle.phase_run.specs.Requests.{IsSettingInRange, names_after, place_
 
 use crate::names::{Names, Place};
 use call_plan::{Answered, Desk, Given, Request};
+use space_model::{DIRTY_MS, MUZZY_MS};
 use std::alloc::{AllocError as NoMemory, Global};
 use thread_cache::Held;
 use trace_phase::{PhaseCall, SettingCall};
 use trace_text::Name;
-
-/// The decay time of dirty extents with which an arena is created, in milliseconds.
-const DIRTY_MS: i64 = 10_000;
-
-/// The decay time of muzzy extents with which an arena is created, in milliseconds.
-const MUZZY_MS: i64 = 0;
 
 /// What a call of a client in a phase asks for, at the phase's moment in nanoseconds, where these names are bound.
 pub fn request_of(now: u64, names: &Names, call: &PhaseCall) -> Request

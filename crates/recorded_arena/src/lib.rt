@@ -8,14 +8,11 @@ ghost use Rattle.recorded_arena.specs.Records.{IsReplayed, most_room, opening_re
 ghost use Rattle.space_model.specs.Own.{mine};
 ghost use Rattle.space_model.specs.Step.{reply_to, space_after, stands};
 
-use arena_core::Arena;
+use arena_core::{Arena, UNIT};
 use hook_api::{Asked, Journal, Writing};
 use space_model::{Op, Reply, Space};
 use std::alloc::{AllocError as NoMemory, Global};
 use std::marker::Model;
-
-/// How many operations that take no memory may follow one that makes room for them.
-const UNIT: u64 = 16;
 
 /// An arena with its journal. Each turn adds its entry, and a turn for which the arena takes no memory takes none for the
 /// journal.

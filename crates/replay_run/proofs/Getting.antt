@@ -1,6 +1,6 @@
 -- A call that gets a region goes nowhere else until it ends.
 use Rattle.call_plan.specs.Stages.{Move}
-use Rattle.replay_run.proofs.Words.{◌≡◌, false, arith, nat_tests, ℕ, Reply, AskFacts, DeskFacts, Item, TurnPoint, Filling, Looking, Landing, AskPoint, Skipping, Trimming, Growing, Paring, Needing, Granting, Committing, Point, Turns, Asks, Tells, Next, Go, Over, More, begin_memalign, step, told, turn_replied}
+use Rattle.replay_run.proofs.Words.{◌≡◌, false, arith, nat_tests, ℕ, Reply, AskFacts, DeskFacts, Item, TurnPoint, Filling, Looking, Landing, AskPoint, Skipping, Trimming, Growing, SplittingGrown, GrowingExactly, SplittingExact, Committing, Point, Turns, Asks, Tells, Next, Go, InArena, NextBatch, begin_memalign, step, told, turn_replied}
 
 -- the points at which a call gets a region, which takes no other one's place
 abbrev pub TurnGets : TurnPoint → Type 0
@@ -13,9 +13,9 @@ abbrev pub AskGets : AskPoint → Type 0
 AskGets (Skipping wish span b skip) = wish.moves ≡ false
 AskGets (Trimming wish span b) = wish.moves ≡ false
 AskGets (Growing wish chunks) = wish.moves ≡ false
-AskGets (Paring wish span b) = wish.moves ≡ false
-AskGets (Needing wish) = wish.moves ≡ false
-AskGets (Granting wish span b) = wish.moves ≡ false
+AskGets (SplittingGrown wish span b) = wish.moves ≡ false
+AskGets (GrowingExactly wish) = wish.moves ≡ false
+AskGets (SplittingExact wish span b) = wish.moves ≡ false
 AskGets (Committing wish span) = wish.moves ≡ false
 AskGets point = ⊥
 
@@ -27,8 +27,8 @@ PointGets (Tells span b) = ⊥
 -- the call waits at such a point, or has ended
 abbrev pub Gets : Next → Type 0
 Gets (Go point) = PointGets point
-Gets (Over index point) = ⊥
-Gets More = ⊥
+Gets (InArena index point) = ⊥
+Gets NextBatch = ⊥
 Gets (Move class) = ⊥
 Gets next = Unit {0}
 

@@ -1,5 +1,5 @@
 -- What a turn of a play leaves as it was.
-use Rattle.replay_run.proofs.Words.{◌≡◌, ◌⊎◌, ℕ, ◌<◌, Bool, true, false, inl, inr, List, Option, None, Some, IfSome, refl, sym, ◌∙◌, ap, subst, arith, nat_tests, nat_lt, both_true, Op, Reply, Span, Space, step_of, op_goes, Mine, mine_in, BadAnswer, NotHeld, NoSuchArena, AskFacts, DeskFacts, Answered, Replied, Request, AskPoint, Point, Turns, Asks, Tells, Next, Go, Ends, Skipping, Trimming, Growing, Paring, Needing, Granting, Committing, CallFacts, Knows, ask_at, done_at, ended_by, desk_fed, settle, step, step_next, want, WantTurn, met_by_alloc, op_for, reply_in, record_at, spaces_of, HeapFacts, answered_by, holder_for, seat_at, sound_at, turns-sit, turn_line, turned_for, Tale, IsSound, IsWanted, Began, Turned, Told, Starved, Read, World, WorldEvent, after_event, Record, tale_at, Verb, beginning_in, begins, Beginning, WentOn}
+use Rattle.replay_run.proofs.Words.{◌≡◌, ◌⊎◌, ℕ, ◌<◌, Bool, true, false, inl, inr, List, Option, None, Some, IfSome, refl, sym, ◌∙◌, ap, subst, arith, nat_tests, nat_lt, both_true, Op, Reply, Span, Space, step_of, op_goes, Mine, mine_in, BadAnswer, NotHeld, NoSuchArena, AskFacts, DeskFacts, Answered, Replied, Request, AskPoint, Point, Turns, Asks, Tells, Next, Go, Ends, Skipping, Trimming, Growing, SplittingGrown, GrowingExactly, SplittingExact, Committing, CallFacts, Knows, ask_at, done_at, ended_by, desk_fed, settle, step, step_next, want, WantTurn, met_by_alloc, op_for, reply_in, record_at, spaces_of, HeapFacts, answered_by, holder_for, seat_at, sound_at, turns-sit, turn_line, turned_for, Tale, IsSound, IsWanted, Began, Turned, Told, Starved, Read, World, WorldEvent, after_event, Record, tale_at, Verb, beginning_in, begins, Beginning, WentOn}
 use Rattle.std.specs.Prelude.{find}
 use Rattle.space_model.specs.Outcome.{Outcome, PutDown, LookNoArena, CutKept, CutWhole, GrowRefused, GrowBad, GrowGrown, CommitNoted, CommitWhole, LandLanded, FillRegions, FillNothing, FillNoArena, AdvanceNoArena, PurgeNothing, PurgeNoArena, TakeNothing, TakeNoArena, ResetBusy, ResetNoArena, DestroyBusy, DestroyNoArena, CountsNoArena, SetNoted, SetNothing, SetNoArena, TrimCut, TrimWhole, WidenNothing}
 use Rattle.space_model.specs.Clients.{without_client}
@@ -135,10 +135,10 @@ place_leaves : (w : World) (c : ℕ) (call : CallFacts) (place : AskPoint) (hear
     reply ≡ (step_of s c (op_for w.heap call (done_at place heard))).reply → heard.ask ≡ ask_at place → heard.answer ≡ Refuses → RefusalLeaves c (done_at place heard) s t (ask_at place)
 place_leaves w c call (Skipping wish span b skip) heard s t reply stands goes told is refuses = cut_leaves c s t (heard_in heard) false span skip reply goes told is refuses
 place_leaves w c call (Trimming wish span b) heard s t reply stands goes told is refuses = cut_leaves c s t (heard_in heard) true span wish.pages reply goes told is refuses
-place_leaves w c call (Paring wish span b) heard s t reply stands goes told is refuses = cut_leaves c s t (heard_in heard) true span wish.pages reply goes told is refuses
-place_leaves w c call (Granting wish span b) heard s t reply stands goes told is refuses = cut_leaves c s t (heard_in heard) true span wish.pages reply goes told is refuses
+place_leaves w c call (SplittingGrown wish span b) heard s t reply stands goes told is refuses = cut_leaves c s t (heard_in heard) true span wish.pages reply goes told is refuses
+place_leaves w c call (SplittingExact wish span b) heard s t reply stands goes told is refuses = cut_leaves c s t (heard_in heard) true span wish.pages reply goes told is refuses
 place_leaves w c call (Growing wish chunks) heard s t reply stands goes told is refuses = grow_leaves c s t (heard_in heard) (met_by_alloc (spaces_of w.heap.records) heard.ask heard.answer) reply goes told refuses
-place_leaves w c call (Needing wish) heard s t reply stands goes told is refuses = grow_leaves c s t (heard_in heard) (met_by_alloc (spaces_of w.heap.records) heard.ask heard.answer) reply goes told refuses
+place_leaves w c call (GrowingExactly wish) heard s t reply stands goes told is refuses = grow_leaves c s t (heard_in heard) (met_by_alloc (spaces_of w.heap.records) heard.ask heard.answer) reply goes told refuses
 place_leaves w c call (Committing wish span) heard s t reply stands goes told is refuses = commit_leaves c s t (heard_in heard) span reply goes stands told is refuses
 place_leaves w c call (Cutting resize) heard s t reply stands goes told is refuses = trim_leaves c s t (heard_in heard) resize.class reply goes told refuses
 place_leaves w c call (Extending resize) heard s t reply stands goes told is refuses = grow_leaves c s t (heard_in heard) (met_by_alloc (spaces_of w.heap.records) heard.ask heard.answer) reply goes told refuses

@@ -4,14 +4,14 @@ use Rattle.call_plan.proofs.Swaps.{meant_slot}
 use Rattle.call_plan.specs.Causes.{CauseIn, CauseOf}
 use Rattle.call_plan.specs.Desks.{meant, ready}
 use Rattle.call_plan.proofs.Reasons.{AskWhy, EndWhy, MoveWhy, PointWhy, ResizeWhy, ThenWhy, TurnWhy}
-use Rattle.call_plan.specs.Stages.{Point, Turns, Asks, Tells, Go, Over, More, Move, Gone, Ends, Nowhere}
+use Rattle.call_plan.specs.Stages.{Point, Turns, Asks, Tells, Go, InArena, NextBatch, Move, NotLive, Ends, Nowhere}
 use Rattle.call_plan.specs.declared.needs.Answered.TheVariants.{Ok, Refused, BadAnswer, TooLarge, BadAlign, NotHeld, NoArena as NoSuchArena, Busy, NoMemory, ArenasFull, Automatic, NoCache, CachesFull}
 use Rattle.call_plan.specs.declared.needs.Request.TheVariants.{Realloc}
 use Rattle.call_plan.specs.declared.points.AskPoint.{AskPoint}
-use Rattle.call_plan.specs.declared.points.AskPoint.TheVariants.{Merging, Easing, Returning, Decommitting, Forcing, Cutting, Extending, Sparing, Backing, Joining}
+use Rattle.call_plan.specs.declared.points.AskPoint.TheVariants.{Merging, PurgingLazily, Returning, Decommitting, Forcing, Cutting, Extending, Sparing, Backing, Joining}
 use Rattle.call_plan.specs.declared.points.Resize.{Resize}
-use Rattle.call_plan.specs.declared.points.Then.{Then}
-use Rattle.call_plan.specs.declared.points.Then.TheVariants.{Batches, Visiting, Moving}
+use Rattle.call_plan.specs.declared.points.AfterFlight.{AfterFlight}
+use Rattle.call_plan.specs.declared.points.AfterFlight.TheVariants.{Batches, Visiting, Moving}
 use Rattle.call_plan.specs.declared.points.TurnPoint.{TurnPoint}
 use Rattle.call_plan.specs.declared.points.TurnPoint.TheVariants.{Finding, Offering, Giving, Widening, Narrowing}
 use Rattle.replay_run.proofs.Words.{arith, DeskFacts, Item, Request, not_holding, ℕ, List, Option, None, Some, IfSome, Answered, Next, asked_for, seat_at, NextWhy, begin_why, settles_why, step_why, AnswerCause, AnswersHaveCauses, IsCaused, Tale, answer_in, tale_in, WorldEvent, World}
@@ -32,7 +32,7 @@ module _ (began : DeskFacts) (addr : ℕ) where
   lose_end (Realloc at size) items now why = why
   lose_end request items now why = grind arith
 
-  lose_then : (request : Request) (items : List Item) (now : DeskFacts) (later : Then) → ThenWhy began request items now later → ThenWhy began request items (not_holding addr now) later
+  lose_then : (request : Request) (items : List Item) (now : DeskFacts) (later : AfterFlight) → ThenWhy began request items now later → ThenWhy began request items (not_holding addr now) later
   lose_then request items now Batches why = lose_end request items now why
   lose_then request items now (Visiting visit left) why = why
   lose_then request items now (Moving class) why = lose_move request now class why
@@ -50,7 +50,7 @@ module _ (began : DeskFacts) (addr : ℕ) where
 
   lose_ask : (request : Request) (items : List Item) (now : DeskFacts) (point : AskPoint) → AskWhy began request items now point → AskWhy began request items (not_holding addr now) point
   lose_ask request items now (Merging low high own_low fresh later) why = lose_then request items now later why
-  lose_ask request items now (Easing span later) why = lose_then request items now later why
+  lose_ask request items now (PurgingLazily span later) why = lose_then request items now later why
   lose_ask request items now (Returning span later) why = lose_then request items now later why
   lose_ask request items now (Decommitting span later) why = lose_then request items now later why
   lose_ask request items now (Forcing span later) why = lose_then request items now later why
@@ -69,10 +69,10 @@ module _ (began : DeskFacts) (addr : ℕ) where
 
   lose_why : (request : Request) (items : List Item) (now : DeskFacts) (next : Next) → NextWhy began request items now next → NextWhy began request items (not_holding addr now) next
   lose_why request items now (Go point) why = lose_point request items now point why
-  lose_why request items now (Over index point) why = lose_point request items now point why
-  lose_why request items now More why = lose_end request items now why
+  lose_why request items now (InArena index point) why = lose_point request items now point why
+  lose_why request items now NextBatch why = lose_end request items now why
   lose_why request items now (Move class) why = lose_move request now class why
-  lose_why request items now Gone why = why
+  lose_why request items now NotLive why = why
   lose_why request items now (Ends answer) why = why
   lose_why request items now Nowhere why = tt
 

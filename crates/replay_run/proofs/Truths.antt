@@ -1,5 +1,5 @@
 -- What an answer says of the world is so: a bad answer of a hook is one, and an arena that isn't there isn't live.
-use Rattle.replay_run.proofs.Words.{◌≡◌, false, is_live, ℕ, max, List, [], ◌∷◌, ◌++◌, Option, None, Some, IfSome, refl, sym, subst, rules, arith, nat_tests, nat_lt, Ask, Alloc, Answer, Placed, BadReply, Reply, Why, Space, Op, AskFacts, Answered, Item, ToldItem, Request, DeskFacts, AskPoint, Growing, Needing, Mine, Knows, Point, Turns, Asks, Tells, TurnPoint, Next, Go, Over, More, Gone, Ends, Nowhere, CallFacts, ended_by, settle, step_next, WantAsk, WantTurn, want, step, told, turn_replied, after_grow, grow_bad, answered_span, batch_goes, going, flushes, BatchFacts, batch_of, Held, op_goes, both_true, turns-sit, sound_at, Sound, record_at, spaces_of, met_by_alloc, answered_by, moment_after, replied, answer_of, begun, seat_at, tale_begun, tale_in, Tale, AnswerCause, BadAnswer, Verb, Bool, option_map, desk_fed, done_at, ask_at, whole_chunks, step_of, op_for, reply_in, with_chunk_found, ◌<◌, ◌*◌, IsSeated, SitsAt, SpeaksAgainst, IsTrueIn, answer_begun, answer_in, WorldEvent, IsSound, IsWanted, Began, Turned, Told, World, holder_for, AsksFor, TellsAt, FindsNone, Beginning, IsGoneIn, NoSuchArena, WentOn, beginning_in, request_in}
+use Rattle.replay_run.proofs.Words.{◌≡◌, false, is_live, ℕ, max, List, [], ◌∷◌, ◌++◌, Option, None, Some, IfSome, refl, sym, subst, rules, arith, nat_tests, nat_lt, Ask, Alloc, Answer, Placed, BadReply, Reply, Why, Space, Op, AskFacts, Answered, Item, ToldItem, Request, DeskFacts, AskPoint, Growing, GrowingExactly, Mine, Knows, Point, Turns, Asks, Tells, TurnPoint, Next, Go, InArena, NextBatch, NotLive, Ends, Nowhere, CallFacts, ended_by, settle, step_next, WantAsk, WantTurn, want, step, told, turn_replied, after_grow, grow_bad, answered_span, batch_goes, going, flushes, BatchFacts, batch_of, Held, op_goes, both_true, turns-sit, sound_at, Sound, record_at, spaces_of, met_by_alloc, answered_by, moment_after, replied, answer_of, begun, seat_at, tale_begun, tale_in, Tale, AnswerCause, BadAnswer, Verb, Bool, option_map, desk_fed, done_at, ask_at, whole_chunks, step_of, op_for, reply_in, with_chunk_found, ◌<◌, ◌*◌, IsSeated, SitsAt, SpeaksAgainst, IsTrueIn, answer_begun, answer_in, WorldEvent, IsSound, IsWanted, Began, Turned, Told, World, holder_for, AsksFor, TellsAt, FindsNone, Beginning, IsGoneIn, NoSuchArena, WentOn, beginning_in, request_in}
 use Rattle.call_plan.specs.Clients.{hit}
 use Rattle.call_plan.specs.Runs.{desk_moved, gives, move_stage}
 use Rattle.call_plan.specs.Stages.{Move}
@@ -14,7 +14,7 @@ IsDead w call = is_live (record_at w.heap.records call.stage.arena).space.life �
 -- where a turn leads: an answer there tells what is so in its world, and the arena is gone only where it isn't live
 abbrev NextTrue : World → ℕ → CallFacts → Op → Option AskFacts → Next → Type 0
 NextTrue w c call op asked (Ends answer) = IsTrueIn w (Turned c call op asked) answer
-NextTrue w c call op asked Gone = IsDead w call
+NextTrue w c call op asked NotLive = IsDead w call
 NextTrue w c call op asked next = Unit {0}
 
 -- where all goes back there is an answer only once all is done, which tells nothing of the world
@@ -35,10 +35,10 @@ move_true w c call op asked desk class None = grind (arith, nat_tests)
 settled_true : (w : World) (c : ℕ) (call : CallFacts) (op : Op) (asked : Option AskFacts) (desk : DeskFacts) (next : Next) → NextTrue w c call op asked next →
     IfSome (ended_by (settle call.request desk call.stage.arena next).next) (IsTrueIn w (Turned c call op asked))
 settled_true w c call op asked desk (Go point) so = tt
-settled_true w c call op asked desk (Over index point) so = tt
-settled_true w c call op asked desk More so = goes_true w c call op asked call.stage.arena (gives call.request desk) (batch_of (going (flushes call.request) desk))
+settled_true w c call op asked desk (InArena index point) so = tt
+settled_true w c call op asked desk NextBatch so = goes_true w c call op asked call.stage.arena (gives call.request desk) (batch_of (going (flushes call.request) desk))
 settled_true w c call op asked desk (Move class) so = move_true w c call op asked desk class (hit class desk)
-settled_true w c call op asked desk Gone so = (refl, so)
+settled_true w c call op asked desk NotLive so = (refl, so)
 settled_true w c call op asked desk (Ends answer) so = so
 settled_true w c call op asked desk Nowhere so = tt
 
@@ -68,7 +68,7 @@ told_true : (w : World) (c : ℕ) (call : CallFacts) (point : AskPoint) (asked :
     NextTrue w c call (done_at point asked) (Some asked) (told point asked reply)
 told_true w c call (Growing wish chunks) asked (BadReply why) is e =
     against_asked (spaces_of w.heap.records) (record_at w.heap.records call.stage.arena).space c (chunks * 512) (max 512 wish.align) asked why is e
-told_true w c call (Needing wish) asked (BadReply why) is e =
+told_true w c call (GrowingExactly wish) asked (BadReply why) is e =
     against_asked (spaces_of w.heap.records) (record_at w.heap.records call.stage.arena).space c (whole_chunks wish.pages) (max 512 wish.align) asked why is e
 told_true w c call point asked reply is e = first_of (search (rules), grind (arith, nat_tests))
 

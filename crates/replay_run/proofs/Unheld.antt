@@ -1,5 +1,5 @@
 -- Where an open realloc stands, and what its client has beside what it holds, doesn't depend on what it holds.
-use Rattle.replay_run.proofs.Words.{◌≡◌, ◌^◌, cond, ℕ, Bool, true, false, List, [], ◌∷◌, Option, None, Some, refl, sym, ◌∙◌, ap, subst, arith, nat_lt, nat_tests, Held, DeskFacts, held_at, not_holding, Item, Request, TurnPoint, Point, Next, Go, More, Ends, Reply, Moment, after, begin, settle, step_next, desk_fed, batch_goes, batch_of, going}
+use Rattle.replay_run.proofs.Words.{◌≡◌, ◌^◌, cond, ℕ, Bool, true, false, List, [], ◌∷◌, Option, None, Some, refl, sym, ◌∙◌, ap, subst, arith, nat_lt, nat_tests, Held, DeskFacts, held_at, not_holding, Item, Request, TurnPoint, Point, Next, Go, NextBatch, Ends, Reply, Moment, after, begin, settle, step_next, desk_fed, batch_goes, batch_of, going}
 use Rattle.std.specs.Prelude.{nat_eq}
 use Rattle.std.specs.Map.{lookup}
 use Rattle.indexmap.specs.IndexMap.{insert_entry}
@@ -56,7 +56,7 @@ module _ (addr size : ℕ) where
       ap (λ (d : DeskFacts). all_goes (Realloc addr size) d arena) (moved_apart class (Some region) held desk) ∙ goes_apart arena held (desk_moved class (Some region) desk)
 
   settle_apart : (arena : ℕ) (next : Next) (held : List (ℕ × Held)) (desk : DeskFacts) → settle (Realloc addr size) (with_held held desk) arena next ≡ settle (Realloc addr size) desk arena next
-  settle_apart arena More held desk = goes_apart arena held desk
+  settle_apart arena NextBatch held desk = goes_apart arena held desk
   settle_apart arena (Move class) held desk = move_apart arena class (hit class desk) held desk
   settle_apart arena next held desk = refl
 

@@ -1,5 +1,5 @@
 -- The points to which a request leads, and the replies at which its call ends there.
-use Rattle.replay_run.proofs.Words.{◌≡◌, ℕ, true, false, Option, None, Some, arith, nat_tests, Reply, DeskFacts, Item, Replied, Request, Span, Why, Answered, BadAnswer, NotHeld, NoSuchArena, TurnPoint, Filling, Looking, Owning, AskPoint, Point, Turns, Asks, Tells, Next, Go, Over, More, Gone, Ends, begin_stage, settle, step}
+use Rattle.replay_run.proofs.Words.{◌≡◌, ℕ, true, false, Option, None, Some, arith, nat_tests, Reply, DeskFacts, Item, Replied, Request, Span, Why, Answered, BadAnswer, NotHeld, NoSuchArena, TurnPoint, Filling, Looking, Owning, AskPoint, Point, Turns, Asks, Tells, Next, Go, InArena, NextBatch, NotLive, Ends, begin_stage, settle, step}
 use Rattle.space_model.specs.declared.Reply.TheVariants.{Bad, NoArena, Nothing, Busy as InUse}
 use Rattle.std.specs.Prelude.{◌==◌, ◌^◌, nat_lt}
 use Rattle.std.proofs.lemmas.Bool.{cond_both}
@@ -13,16 +13,16 @@ use Rattle.call_plan.specs.declared.needs.Answered.TheVariants.{Ok}
 use Rattle.call_plan.specs.declared.needs.Given.{Given}
 use Rattle.call_plan.specs.declared.needs.Request.TheVariants.{Malloc, Memalign, Realloc, Free, Publish, FreeForeign, Take, Flush, Cache, Create, Destroy, NewCache, MallocIn, FreeIn, FlushCache, EndCache}
 use Rattle.call_plan.specs.declared.needs.Answered.TheVariants.{ArenasFull, Busy}
-use Rattle.call_plan.specs.declared.points.AskPoint.TheVariants.{Merging, Easing, Returning, Decommitting, Forcing}
-use Rattle.call_plan.specs.declared.points.Then.{Then}
-use Rattle.call_plan.specs.declared.points.Then.TheVariants.{Batches, Visiting, Moving}
+use Rattle.call_plan.specs.declared.points.AskPoint.TheVariants.{Merging, PurgingLazily, Returning, Decommitting, Forcing}
+use Rattle.call_plan.specs.declared.points.AfterFlight.{AfterFlight}
+use Rattle.call_plan.specs.declared.points.AfterFlight.TheVariants.{Batches, Visiting, Moving}
 use Rattle.call_plan.specs.declared.points.TurnPoint.TheVariants.{Giving, Finding, Taking, Offering, Advancing, Changing, Making, Resetting, Destroying, Dooming, Publishing}
 use Rattle.replay_run.proofs.Getting.{Gets, begin_gets, step_gets}
 
 -- ---- the points of a request
 
 -- regions go back, and no extent of a visit
-abbrev IsBatch : Then → Type 0
+abbrev IsBatch : AfterFlight → Type 0
 IsBatch Batches = Unit {0}
 IsBatch (Visiting visit left) = ⊥
 IsBatch (Moving class) = ⊥
@@ -36,7 +36,7 @@ TurnBacks point = ⊥
 
 abbrev AskBacks : AskPoint → Type 0
 AskBacks (Merging low high own_low fresh later) = IsBatch later
-AskBacks (Easing span later) = IsBatch later
+AskBacks (PurgingLazily span later) = IsBatch later
 AskBacks (Returning span later) = IsBatch later
 AskBacks (Decommitting span later) = IsBatch later
 AskBacks (Forcing span later) = IsBatch later
@@ -51,8 +51,8 @@ PointBacks (Tells span b) = ⊥
 abbrev Backs : Next → Type 0
 Backs (Go point) = PointBacks point
 Backs (Move class) = ⊥
-Backs (Over index point) = ⊥
-Backs Gone = ⊥
+Backs (InArena index point) = ⊥
+Backs NotLive = ⊥
 Backs next = Unit {0}
 
 abbrev pub PointMakes : Point → Type 0
@@ -63,9 +63,9 @@ PointMakes point = ⊥
 abbrev Makes : Next → Type 0
 Makes (Go point) = PointMakes point
 Makes (Move class) = ⊥
-Makes (Over index point) = PointMakes point
-Makes Gone = ⊥
-Makes More = ⊥
+Makes (InArena index point) = PointMakes point
+Makes NotLive = ⊥
+Makes NextBatch = ⊥
 Makes next = Unit {0}
 
 abbrev pub PointOwns : Point → Type 0
@@ -76,8 +76,8 @@ PointOwns point = ⊥
 abbrev Owns : Next → Type 0
 Owns (Go point) = PointOwns point
 Owns (Move class) = ⊥
-Owns (Over index point) = ⊥
-Owns More = ⊥
+Owns (InArena index point) = ⊥
+Owns NextBatch = ⊥
 Owns next = Unit {0}
 
 abbrev pub PointFrees : Point → Type 0
@@ -88,7 +88,7 @@ PointFrees point = PointBacks point
 abbrev Frees : Next → Type 0
 Frees (Go point) = PointFrees point
 Frees (Move class) = ⊥
-Frees (Over index point) = ⊥
+Frees (InArena index point) = ⊥
 Frees next = Unit {0}
 
 abbrev pub PointDooms : Point → Type 0
@@ -101,12 +101,12 @@ PointDooms point = ⊥
 abbrev Dooms : Next → Type 0
 Dooms (Go point) = PointDooms point
 Dooms (Move class) = ⊥
-Dooms (Over index point) = ⊥
-Dooms More = ⊥
+Dooms (InArena index point) = ⊥
+Dooms NextBatch = ⊥
 Dooms next = Unit {0}
 
 -- no extent of a visit goes back
-abbrev NoVisit : Then → Type 0
+abbrev NoVisit : AfterFlight → Type 0
 NoVisit (Visiting visit left) = ⊥
 NoVisit later = Unit {0}
 
@@ -126,7 +126,7 @@ TurnResizes point = Unit {0}
 
 abbrev pub AskResizes : AskPoint → Type 0
 AskResizes (Merging low high own_low fresh later) = NoVisit later
-AskResizes (Easing span later) = NoVisit later
+AskResizes (PurgingLazily span later) = NoVisit later
 AskResizes (Returning span later) = NoVisit later
 AskResizes (Decommitting span later) = NoVisit later
 AskResizes (Forcing span later) = NoVisit later
@@ -140,15 +140,15 @@ PointResizes (Tells span b) = ⊥
 -- the call waits where a region is resized, or another one takes its place, or has ended
 abbrev pub Resizes : Next → Type 0
 Resizes (Go point) = PointResizes point
-Resizes (Over index point) = ⊥
+Resizes (InArena index point) = ⊥
 Resizes next = Unit {0}
 
 -- the call has ended
 abbrev pub Rests : Next → Type 0
 Rests (Go point) = ⊥
 Rests (Move class) = ⊥
-Rests (Over index point) = ⊥
-Rests More = ⊥
+Rests (InArena index point) = ⊥
+Rests NextBatch = ⊥
 Rests next = Unit {0}
 
 -- where a request leads that isn't about a live arena at each of its turns
@@ -207,7 +207,7 @@ goes_resizes arena None None = tt
 goes_resizes arena (Some region) None = tt
 goes_resizes arena gained (Some batch) = tt
 
-goes_leads : (request : Request) (arena : ℕ) (gained : Option Held) (batch : Option BatchFacts) → Leads request More → Leads request (batch_goes arena gained batch).next
+goes_leads : (request : Request) (arena : ℕ) (gained : Option Held) (batch : Option BatchFacts) → Leads request NextBatch → Leads request (batch_goes arena gained batch).next
 goes_leads request arena None None leads = ends_leads request _
 goes_leads request arena (Some region) None leads = ends_leads request _
 goes_leads request arena gained (Some batch) leads = grind arith
@@ -255,11 +255,11 @@ begin_leads (Cache true) desk = tt
 begin_leads (Cache false) desk = goes_backs desk.arena None (batch_of (going true desk))
 begin_leads request desk = grind (arith, nat_tests)
 
-over_leads : (request : Request) (index : ℕ) (point : Point) → Leads request (Over index point) → Leads request (Go point)
+over_leads : (request : Request) (index : ℕ) (point : Point) → Leads request (InArena index point) → Leads request (Go point)
 over_leads request index point leads = grind arith
 
 -- where a cached region takes the place of the one in hand, that goes back
-move_more : (request : Request) (class : ℕ) → Leads request (Move class) → Leads request More
+move_more : (request : Request) (class : ℕ) → Leads request (Move class) → Leads request NextBatch
 move_more request class leads = grind arith
 
 got_leads : (request : Request) (class count : ℕ) → Leads request (Move class) → Leads request (get true class 1 count)
@@ -272,10 +272,10 @@ moved_leads request of arena class None desk leads = got_leads request class (sh
 
 pub settle_leads : (request : Request) (of : Request) (desk : DeskFacts) (arena : ℕ) (next : Next) → Leads request next → Leads request (settle of desk arena next).next
 settle_leads request of desk arena (Go point) leads = leads
-settle_leads request of desk arena (Over index point) leads = over_leads request index point leads
-settle_leads request of desk arena More leads = goes_leads request arena (gives of desk) (batch_of (going (flushes of) desk)) leads
+settle_leads request of desk arena (InArena index point) leads = over_leads request index point leads
+settle_leads request of desk arena NextBatch leads = goes_leads request arena (gives of desk) (batch_of (going (flushes of) desk)) leads
 settle_leads request of desk arena (Move class) leads = moved_leads request of arena class (hit class desk) desk leads
-settle_leads request of desk arena Gone leads = ends_leads request _
+settle_leads request of desk arena NotLive leads = ends_leads request _
 settle_leads request of desk arena (Ends answer) leads = leads
 settle_leads request of desk arena Nowhere leads = leads
 
@@ -296,7 +296,7 @@ Fails answer = Unit {0}
 -- where such an answer comes from: a step led to it, or found no arena
 abbrev IsFrom : ℕ → Next → Answered → Type 0
 IsFrom arena (Ends told) answer = told ≡ answer
-IsFrom arena Gone answer = NoSuchArena arena ≡ answer
+IsFrom arena NotLive answer = NoSuchArena arena ≡ answer
 IsFrom arena next answer = ⊥
 
 given_not : (given : Given) (answer : Answered) → Fails answer → Ends (Ok given) ≡ Ends answer → ⊥
@@ -318,10 +318,10 @@ move_not of arena class None desk answer fails is = got_not class (share class d
 
 ends_from : (of : Request) (desk : DeskFacts) (arena : ℕ) (next : Next) (answer : Answered) → Fails answer → (settle of desk arena next).next ≡ Ends answer → IsFrom arena next answer
 ends_from of desk arena (Go point) answer fails is = absurd (cc)
-ends_from of desk arena (Over index point) answer fails is = absurd (cc)
-ends_from of desk arena More answer fails is = goes_not arena (gives of desk) (batch_of (going (flushes of) desk)) answer fails is
+ends_from of desk arena (InArena index point) answer fails is = absurd (cc)
+ends_from of desk arena NextBatch answer fails is = goes_not arena (gives of desk) (batch_of (going (flushes of) desk)) answer fails is
 ends_from of desk arena (Move class) answer fails is = move_not of arena class (hit class desk) desk answer fails is
-ends_from of desk arena Gone answer fails is = cc
+ends_from of desk arena NotLive answer fails is = cc
 ends_from of desk arena (Ends told) answer fails is = cc
 ends_from of desk arena Nowhere answer fails is = absurd (cc)
 

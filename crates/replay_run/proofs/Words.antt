@@ -27,7 +27,7 @@ pub use Rattle.call_plan.specs.Laws.{Moves}
 pub use Rattle.call_plan.specs.Needs.{IsPointOrEnd, Goes}
 pub use Rattle.call_plan.specs.Reads.{taken_next, ended_by, aimed, published_next}
 pub use Rattle.call_plan.specs.Runs.{Moment, after, begin, begin_memalign, begin_stage, run, settle, step_next, begin_get, is_alignment, page_align, small_hit}
-pub use Rattle.call_plan.specs.Stages.{Point, Turns, Next, Go, Over, More, Gone, Ends, Nowhere, Asks, Tells}
+pub use Rattle.call_plan.specs.Stages.{Point, Turns, Next, Go, InArena, NextBatch, NotLive, Ends, Nowhere, Asks, Tells}
 pub use Rattle.call_plan.specs.Table.{step, chunks_for, commit, is_marked, op_at, starved, told, trim, turn_replied, Want, WantAsk, WantTurn, want}
 pub use Rattle.call_plan.specs.declared.needs.Answered.{Answered}
 pub use Rattle.call_plan.specs.declared.needs.Answered.TheVariants.{NotHeld}
@@ -36,7 +36,7 @@ pub use Rattle.call_plan.specs.Items.{Item, Replied, Told as ToldItem}
 pub use Rattle.call_plan.specs.declared.needs.Request.{Request}
 pub use Rattle.call_plan.specs.declared.needs.Request.TheVariants.{Memalign}
 pub use Rattle.call_plan.specs.declared.points.AskPoint.{AskPoint}
-pub use Rattle.call_plan.specs.declared.points.AskPoint.TheVariants.{Skipping, Trimming, Growing, Paring, Needing, Granting, Committing}
+pub use Rattle.call_plan.specs.declared.points.AskPoint.TheVariants.{Skipping, Trimming, Growing, SplittingGrown, GrowingExactly, SplittingExact, Committing}
 pub use Rattle.call_plan.specs.declared.points.TurnPoint.{TurnPoint}
 pub use Rattle.call_plan.specs.declared.points.TurnPoint.TheVariants.{Owning, Filling, Looking, Landing}
 pub use Rattle.call_plan.specs.declared.points.Wish.{Wish}

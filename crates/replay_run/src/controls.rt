@@ -17,14 +17,8 @@ use ctl_values::{CtlStep, Times};
 use heap_core::{ARENAS, Heap};
 use heap_stats::{Count, Snapshot, Whose};
 use report_text::CtlAnswer;
-use space_model::Rest;
+use space_model::{DIRTY_MS, MUZZY_MS, Rest};
 use std::marker::Model;
-
-/// The decay time of dirty extents with which arenas are created at first, in milliseconds.
-const DIRTY_MS: i64 = 10_000;
-
-/// The same of muzzy extents.
-const MUZZY_MS: i64 = 0;
 
 /// How many bytes a chunk has.
 const CHUNK_BYTES: u64 = 2097152;

@@ -1,5 +1,5 @@
 -- What a turn of a call leaves of the arenas and of the call.
-use Rattle.sits.proofs.Words.{IsTrue, entry_of, room_of, opens, Idle, Knows, flying, needed_at, WantTurn, WantAsk, step, want, is_marked, Replied, Told, Point, Next, Go, Over, Op, Reply, Space, AskFacts, mine, AnswersTo, IsKept, stands, ◌≡◌, ◌≤◌, ℕ, Bool, true, false, List, Option, refl, arith, nat_lt, ◌<◌, length, sym, subst, ◌∙◌, ◌&&◌, lt-ltb, rules, get_or-set_same, length-set, rooms-suffice, wants-stand, steps-keep, Keeps, Moves, Stands, left, stages, with_found, Suffices, needed_next, room_then, Sound, both_true, op_keeps, step_of, op_stands, room_after, Look, room_in, record_after, record_at, reply_in, IsIdle, mine_in, Waits, WaitsNext, Record, AreApart, AreArenas, after_found, CanTake}
+use Rattle.sits.proofs.Words.{IsTrue, entry_of, room_of, opens, Idle, Knows, flying, needed_at, WantTurn, WantAsk, step, want, is_marked, Replied, Told, Point, Next, Go, InArena, Op, Reply, Space, AskFacts, mine, AnswersTo, IsKept, stands, ◌≡◌, ◌≤◌, ℕ, Bool, true, false, List, Option, refl, arith, nat_lt, ◌<◌, length, sym, subst, ◌∙◌, ◌&&◌, lt-ltb, rules, get_or-set_same, length-set, rooms-suffice, wants-stand, steps-keep, Keeps, Moves, Stands, left, stages, with_found, Suffices, needed_next, room_then, Sound, both_true, op_keeps, step_of, op_stands, room_after, Look, room_in, record_after, record_at, reply_in, IsIdle, mine_in, Waits, WaitsNext, Record, AreApart, AreArenas, after_found, CanTake}
 use Rattle.sits.proofs.Indexes.{by_arena, elsewhere_is, there_is}
 
 -- ---- the arenas
@@ -103,7 +103,7 @@ module _ {together : Bool} (records : List Record) (c arena : ℕ) (point : Poin
     elsewhere = λ i ne. subst (λ (x : Record). Idle (mine c x.space)) (sym (elsewhere_is records arena i new ne)) (waits.elsewhere i ne);
     room = subst (λ (x : Record). needed_at (flying (mine c x.space)) p ≤ room_of c x.rooms) (sym (there_is records arena new is.number waits.there)) room;
   }
-  leads (Over index p) stage bound known room = (idle_then known.0, known.1)
+  leads (InArena index p) stage bound known room = (idle_then known.0, known.1)
   leads next stage bound known room = search (rules, idle_then)
 
 -- the turn that a waiting call wants can be taken, and leads on

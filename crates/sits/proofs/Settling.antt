@@ -1,5 +1,5 @@
 -- Where a call came, its client is as it has to be.
-use Rattle.sits.proofs.Words.{[], ◌≡◌, ℕ, ◌+◌, ◌-◌, ◌/◌, ◌<◌, ◌≤◌, ◌==◌, ◌||◌, ◌++◌, Bool, true, false, cond, List, ◌∷◌, Option, None, Some, length, map, take, refl, sym, ◌∙◌, ap, subst, arith, min, nat_lt, count_by, flat_map, list_all, list_any, sum_by, ltb-true, nat_tests, length-take, sum_by-append, sum_by-cons, SpaceRegion, has_page, counted_any, map_terms, ones, held_again, holding, kept, older_count, Request, Cache, Finished, Answered, NoArena, Giving, Point, Turns, Next, Go, Over, More, Gone, Ends, Nowhere, Stage, Mine, mine, Held, DeskFacts, BatchFacts, batch_of, going, going_with, is_cacheable, slots_at, cached_in, desk_ended, flushes, held_region, switched, GivesBack, Knows, is_held, is_served, KnowsNext, Ready, flying, needed_at, batch_goes, closed, moved, settle, batches-know, both_true, AreArenas, no_record, record_at, room_in, IsIdle, WaitsNext, mine_in, Record, Comes, HasRegions, IsAtRest, in_hand, is_region, is_region_in, regions_of_desk, cases_lt, inl, inr, Sound, Sits, Suits, ◌&&◌, gain_held, region_ended, is_held_of, gives, all_goes, Move, desk_moved, move_stage, get, share, stage, hit, hitting, wish_for, most_regions, Filling, Looking, HasSlots, lt-ltb, cond_both, moves-know, desk_led}
+use Rattle.sits.proofs.Words.{[], ◌≡◌, ℕ, ◌+◌, ◌-◌, ◌/◌, ◌<◌, ◌≤◌, ◌==◌, ◌||◌, ◌++◌, Bool, true, false, cond, List, ◌∷◌, Option, None, Some, length, map, take, refl, sym, ◌∙◌, ap, subst, arith, min, nat_lt, count_by, flat_map, list_all, list_any, sum_by, ltb-true, nat_tests, length-take, sum_by-append, sum_by-cons, SpaceRegion, has_page, counted_any, map_terms, ones, held_again, holding, kept, older_count, Request, Cache, Finished, Answered, NoArena, Giving, Point, Turns, Next, Go, InArena, NextBatch, NotLive, Ends, Nowhere, Stage, Mine, mine, Held, DeskFacts, BatchFacts, batch_of, going, going_with, is_cacheable, slots_at, cached_in, desk_ended, flushes, held_region, switched, GivesBack, Knows, is_held, is_served, KnowsNext, Ready, flying, needed_at, batch_goes, closed, moved, settle, batches-know, both_true, AreArenas, no_record, record_at, room_in, IsIdle, WaitsNext, mine_in, Record, Comes, HasRegions, IsAtRest, in_hand, is_region, is_region_in, regions_of_desk, cases_lt, inl, inr, Sound, Sits, Suits, ◌&&◌, gain_held, region_ended, is_held_of, gives, all_goes, Move, desk_moved, move_stage, get, share, stage, hit, hitting, wish_for, most_regions, Filling, Looking, HasSlots, lt-ltb, cond_both, moves-know, desk_led}
 use Rattle.sits.specs.Words.{Region, Ok}
 use Rattle.call_plan.proofs.Lists.{any_weaker}
 use Rattle.sits.proofs.Counting.{shifts, through}
@@ -264,7 +264,7 @@ gives_gained request desk region e = grind arith
 pub comes_more : {together : Bool} (records : List Record) (c arena : ℕ) (request : Request) (desk : DeskFacts) → AreArenas together records → Owns together records c [] desk → IsIdle records c →
     Comes together records c (closed request desk (all_goes request desk arena))
 comes_more {together} records c arena request desk is owns idle =
-    by (gives request desk) (batch_of (going (flushes request) desk)) refl refl (batches-know (mine_in records c (settle request desk arena More).arena) request desk arena (is_ready records c desk (settle request desk arena More) owns idle))
+    by (gives request desk) (batch_of (going (flushes request) desk)) refl refl (batches-know (mine_in records c (settle request desk arena NextBatch).arena) request desk arena (is_ready records c desk (settle request desk arena NextBatch) owns idle))
   where
     by : (gained : Option Held) (batch : Option BatchFacts) → gives request desk ≡ gained → batch_of (going (flushes request) desk) ≡ batch → KnowsNext (mine_in records c (batch_goes arena gained batch).arena) (batch_goes arena gained batch).next →
         Comes together records c (closed request desk (batch_goes arena gained batch))
@@ -336,12 +336,12 @@ pub comes_on : {together : Bool} (records : List Record) (c arena : ℕ) (reques
     Suited extra desk request arena next → Comes together records c (moved request desk arena next)
 comes_on {together} records c arena request desk extra (Go point) is owns waits suits =
     (tt, (refl, record { has = owns_has records c desk (subst (λ extra. Owns together records c extra desk) suits.0 owns); waits = waits; suits = suits.1 }))
-comes_on {together} records c arena request desk extra (Over index point) is owns waits suits =
+comes_on {together} records c arena request desk extra (InArena index point) is owns waits suits =
     let mine : Owns together records c [] desk = subst (λ extra. Owns together records c extra desk) suits.0 owns in
     (tt, (refl, first_sits records c index point request desk suits.1 mine waits.0 (waits.1 (mine_in records c index) (waits.0 index)) suits.2 suits.3))
 comes_on {together} records c arena request desk extra (Move class) is owns waits suits =
     comes_move records c arena class request desk is (subst (λ extra. Owns together records c extra desk) suits.0 owns) waits.0 suits.1 waits.1
-comes_on {together} records c arena request desk extra More is owns waits suits = comes_more records c arena request desk is (subst (λ extra. Owns together records c extra desk) suits owns) waits
-comes_on records c arena request desk extra Gone is owns waits suits = (tt, ends_rest records c arena request desk extra (NoArena arena) is owns waits suits)
+comes_on {together} records c arena request desk extra NextBatch is owns waits suits = comes_more records c arena request desk is (subst (λ extra. Owns together records c extra desk) suits owns) waits
+comes_on records c arena request desk extra NotLive is owns waits suits = (tt, ends_rest records c arena request desk extra (NoArena arena) is owns waits suits)
 comes_on records c arena request desk extra (Ends answer) is owns waits suits = (tt, ends_rest records c arena request desk extra answer is owns waits suits)
 comes_on records c arena request desk extra Nowhere is owns waits suits = absurd waits

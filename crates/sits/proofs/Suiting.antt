@@ -1,5 +1,5 @@
 -- What a client has suits each point to which its call comes.
-use Rattle.sits.proofs.Words.{[], rules, ◌≡◌, ℕ, ◌<◌, ◌≤◌, true, false, List, ◌∷◌, None, refl, sym, ◌∙◌, subst, arith, nat_lt, cond_both, ltb-true, nat_tests, discarding, Request, Answered, Change, Leaves, TurnPoint, Filling, Landing, Changing, Making, Resetting, Owning, AskPoint, Next, Go, Over, Ends, Reply, Nothing, Noted, Landed, Regions, Owned, Setting, AskFacts, Held, DeskFacts, desk_turned, landed_behind, held_region, needed_at, make_next, told, turn_replied, HasSlots, Suits, SuitsChange, SuitsAsk, SuitsTurn, visited, Visit, Bool, cond, Option, Some, More, Move, Wish, sharing, gaining, taking_place, desk_told, got}
+use Rattle.sits.proofs.Words.{[], rules, ◌≡◌, ℕ, ◌<◌, ◌≤◌, true, false, List, ◌∷◌, None, refl, sym, ◌∙◌, subst, arith, nat_lt, cond_both, ltb-true, nat_tests, discarding, Request, Answered, Change, Leaves, TurnPoint, Filling, Landing, Changing, Making, Resetting, Owning, AskPoint, Next, Go, InArena, Ends, Reply, Nothing, Noted, Landed, Regions, Owned, Setting, AskFacts, Held, DeskFacts, desk_turned, landed_behind, held_region, needed_at, make_next, told, turn_replied, HasSlots, Suits, SuitsChange, SuitsAsk, SuitsTurn, visited, Visit, Bool, cond, Option, Some, NextBatch, Move, Wish, sharing, gaining, taking_place, desk_told, got}
 use Rattle.sits.specs.Words.{Region, Ok}
 use Rattle.sits.proofs.Having.{CanKeep, share_stays}
 
@@ -28,7 +28,7 @@ SuitsAnswer extra desk arena answer = extra ≡ []
 -- what a client has suits where its call goes next
 abbrev pub Suited : List Held → DeskFacts → Request → ℕ → Next → Type 0
 Suited extra desk request arena (Go point) = (extra ≡ []) × Suits desk request arena point
-Suited extra desk request arena (Over index point) = (extra ≡ []) × (index < 32) × Suits desk request index point × (needed_at 0 point ≡ 0)
+Suited extra desk request arena (InArena index point) = (extra ≡ []) × (index < 32) × Suits desk request index point × (needed_at 0 point ≡ 0)
 Suited extra desk request arena (Ends answer) = SuitsAnswer extra desk arena answer
 Suited extra desk request arena (Move class) = (extra ≡ []) × (desk.gained ≡ None)
 Suited extra desk request arena next = extra ≡ []
@@ -66,7 +66,7 @@ got_suits : (request : Request) (arena : ℕ) (wish : Wish) (addr : ℕ) (desk :
     Suited (handed wish (held_region arena wish.class addr)) (taking_place wish (held_region arena wish.class addr) desk) request arena (got wish addr)
 got_suits request arena wish addr desk empty none = by wish.moves refl
   where
-    by : (v : Bool) → wish.moves ≡ v → Suited (cond v [] (held_region arena wish.class addr ∷ [])) (cond v (gaining (held_region arena wish.class addr) desk) desk) request arena (cond v More (Ends (Ok (Region addr wish.class))))
+    by : (v : Bool) → wish.moves ≡ v → Suited (cond v [] (held_region arena wish.class addr ∷ [])) (cond v (gaining (held_region arena wish.class addr) desk) desk) request arena (cond v NextBatch (Ends (Ok (Region addr wish.class))))
     by true e = refl
     by false e = subst (λ o. SuitsRegion o (held_region arena wish.class addr ∷ []) desk (held_region arena wish.class addr)) (sym none) (refl, empty e)
 

@@ -26,7 +26,7 @@ pub use Rattle.call_plan.specs.Laws.{Has, Keeps, KnowsNext, Moves, Ready, Stands
 pub use Rattle.call_plan.specs.Rooms.{Suffices, flying, needed_at, needed_next, room_then}
 pub use Rattle.call_plan.specs.Runs.{all_done, all_goes, are_large, begin_realloc, begin_resize, desk_led, desk_moved, desk_realloced, desk_resized, get, gives, move_stage, resize_at, resize_to, after, after_time, batch_goes, begin, begin_bind, begin_free, begin_get, begin_malloc, begin_memalign, begin_publish, begin_stage, closed, decay_setting, desk_freed, desk_got, desk_published, first_turn, first_turn_but_0, is_alignment, moved, page_align, purge_visit, settle, share, small_hit, stage, step_next, wish_for}
 pub use Rattle.call_plan.specs.Table.{ask_at, got, own_span, WantAsk, WantTurn, done_at, is_marked, make_next, op_at, starved, step, told, turn_replied, visited, want}
-pub use Rattle.call_plan.specs.Words.{AnswersTo, AskFacts, Asks, SetBound as Bind, DeskFacts, DirtyMs, Ends, Go, Gone, Held, Item, MakeLive, Mine, More, Move, Next, NextFlight, Nowhere, Op, Over, Point, Replied, Reply, SetBound, SetBox, SetLimit, Setting, Space, Span, Stage, Starved, Told, Turns, Unbind, batch_of, cached_in, cached_of, going, held_at, hitting, mine, slots_at}
+pub use Rattle.call_plan.specs.Words.{AnswersTo, AskFacts, Asks, SetBound as Bind, DeskFacts, DirtyMs, Ends, Go, NotLive, Held, Item, MakeLive, Mine, NextBatch, Move, Next, NextFlight, Nowhere, Op, InArena, Point, Replied, Reply, SetBound, SetBox, SetLimit, Setting, Space, Span, Stage, Starved, Told, Turns, Unbind, batch_of, cached_in, cached_of, going, held_at, hitting, mine, slots_at}
 pub use Rattle.call_plan.specs.declared.needs.Answered.{Answered}
 pub use Rattle.call_plan.specs.declared.needs.Answered.TheVariants.{Automatic, BadAlign, NoArena, NoMemory, NotHeld, TooLarge}
 pub use Rattle.call_plan.specs.declared.needs.Given.TheVariants.{Done as Finished}

@@ -1,6 +1,6 @@
 -- What is so of a client's call among arenas, by what the client owns in each.
 use Rattle.std.specs.Prelude.{◌≡◌, ◌≢◌, ℕ, ◌<◌, ◌≤◌, false, IsTrue, List, Option}
-use Rattle.sits.specs.Words.{AskFacts, Ends, Go, Gone, Idle, IsKept, Knows, Mine, More, Move, Next, Nowhere, Op, Over, Point, Record, entry_of, flying, mine, needed_at, opens, stands, with_found}
+use Rattle.sits.specs.Words.{AskFacts, Ends, Go, NotLive, Idle, IsKept, Knows, Mine, NextBatch, Move, Next, Nowhere, Op, InArena, Point, Record, entry_of, flying, mine, needed_at, opens, stands, with_found}
 use Rattle.sits.specs.Arenas.{record_at, room_in}
 
 -- what a client owns in an arena
@@ -23,10 +23,10 @@ pub record Waits (records : List Record) (c arena : ℕ) (point : Point) : Type 
 -- place of the one in hand, or where it goes over to another arena, whose first point then knows all that it has to
 abbrev pub WaitsNext : List Record → ℕ → ℕ → Next → Type 0
 WaitsNext records c arena (Go point) = Waits records c arena point
-WaitsNext records c arena (Over index point) = IsIdle records c × ((m : Mine) → Idle m → Knows m point)
-WaitsNext records c arena More = IsIdle records c
+WaitsNext records c arena (InArena index point) = IsIdle records c × ((m : Mine) → Idle m → Knows m point)
+WaitsNext records c arena NextBatch = IsIdle records c
 WaitsNext records c arena (Move class) = IsIdle records c × (class < 121)
-WaitsNext records c arena Gone = IsIdle records c
+WaitsNext records c arena NotLive = IsIdle records c
 WaitsNext records c arena (Ends answer) = IsIdle records c
 WaitsNext records c arena Nowhere = ⊥
 

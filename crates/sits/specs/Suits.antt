@@ -1,6 +1,6 @@
 -- What of all that a client has suits a point of its call.
 use Rattle.std.specs.Prelude.{◌≡◌, ◌≢◌, ℕ, Bool, false, ◌+◌, ◌<◌, ◌≤◌, Option, None, Some, length}
-use Rattle.sits.specs.Words.{AskPoint, Asks, Batches, Change, Changing, Committing, Decommitting, DeskFacts, Destroying, Easing, Filling, Finding, Forcing, Giving, Granting, Growing, Held, Landing, Leaves, Looking, Merging, Cutting, Extending, Sparing, Backing, Joining, Resize, Moving, Owning, Widening, Narrowing, Needing, Offering, Paring, Point, Publishing, Request, Resetting, Returning, SetBound as Bind, Setting, Skipping, Stops, Tells, Then, Trimming, TurnPoint, Turns, Unbind, Visiting, Visits, batch_of, cached_in, cached_of, flushes, going, pages_at, slots_at}
+use Rattle.sits.specs.Words.{AskPoint, Asks, Batches, Change, Changing, Committing, Decommitting, DeskFacts, Destroying, PurgingLazily, Filling, Finding, Forcing, Giving, SplittingExact, Growing, Held, Landing, Leaves, Looking, Merging, Cutting, Extending, Sparing, Backing, Joining, Resize, Moving, Owning, Widening, Narrowing, GrowingExactly, Offering, SplittingGrown, Point, Publishing, Request, Resetting, Returning, SetBound as Bind, Setting, Skipping, Stops, Tells, AfterFlight, Trimming, TurnPoint, Turns, Unbind, Visiting, Visits, batch_of, cached_in, cached_of, flushes, going, pages_at, slots_at}
 
 -- there are slots for all but one of so many regions of a class
 abbrev pub HasSlots : DeskFacts → ℕ → ℕ → Type 0
@@ -15,7 +15,7 @@ pub record SuitsGet (desk : DeskFacts) (arena : ℕ) (moves : Bool) (class count
   pub slots : HasSlots desk class count
 
 -- a region is in hand only while regions go back, or where another one is to take its place, and then none is gained
-abbrev pub SuitsThen : DeskFacts → Then → Type 0
+abbrev pub SuitsThen : DeskFacts → AfterFlight → Type 0
 SuitsThen desk Batches = Unit {0}
 SuitsThen desk (Visiting visit left) = desk.hand ≡ None
 SuitsThen desk (Moving class) = desk.gained ≡ None
@@ -68,12 +68,12 @@ abbrev pub SuitsAsk : DeskFacts → ℕ → AskPoint → Type 0
 SuitsAsk desk arena (Skipping wish span is_committed skip) = SuitsGet desk arena wish.moves wish.class wish.count
 SuitsAsk desk arena (Trimming wish span is_committed) = SuitsGet desk arena wish.moves wish.class wish.count
 SuitsAsk desk arena (Growing wish chunks) = SuitsGet desk arena wish.moves wish.class wish.count
-SuitsAsk desk arena (Paring wish span is_committed) = SuitsGet desk arena wish.moves wish.class wish.count
-SuitsAsk desk arena (Needing wish) = SuitsGet desk arena wish.moves wish.class wish.count
-SuitsAsk desk arena (Granting wish span is_committed) = SuitsGet desk arena wish.moves wish.class wish.count
+SuitsAsk desk arena (SplittingGrown wish span is_committed) = SuitsGet desk arena wish.moves wish.class wish.count
+SuitsAsk desk arena (GrowingExactly wish) = SuitsGet desk arena wish.moves wish.class wish.count
+SuitsAsk desk arena (SplittingExact wish span is_committed) = SuitsGet desk arena wish.moves wish.class wish.count
 SuitsAsk desk arena (Committing wish span) = SuitsGet desk arena wish.moves wish.class wish.count
 SuitsAsk desk arena (Merging low high own_low fresh later) = SuitsThen desk later
-SuitsAsk desk arena (Easing span later) = SuitsThen desk later
+SuitsAsk desk arena (PurgingLazily span later) = SuitsThen desk later
 SuitsAsk desk arena (Returning span later) = SuitsThen desk later
 SuitsAsk desk arena (Decommitting span later) = SuitsThen desk later
 SuitsAsk desk arena (Forcing span later) = SuitsThen desk later

@@ -9,18 +9,18 @@ pub use Rattle.call_plan.specs.Needs.{Goes}
 pub use Rattle.call_plan.specs.Rooms.{flying, needed_at}
 pub use Rattle.call_plan.specs.Runs.{Moment, after, begin}
 pub use Rattle.call_plan.specs.Table.{WantAsk, WantTurn, is_marked, want}
-pub use Rattle.call_plan.specs.Words.{AnswersTo, AskFacts, Asks, DeskFacts, Ends, Go, Gone, Held, Item, Mine, More, Move, Next, Nowhere, Op, Over, Point, Replied, Reply, SetBound, Setting, Starved, Tells, Told, Turns, Unbind, batch_of, cached_in, cached_of, going, mine, pages_at, slots_at}
+pub use Rattle.call_plan.specs.Words.{AnswersTo, AskFacts, Asks, DeskFacts, Ends, Go, NotLive, Held, Item, Mine, NextBatch, Move, Next, Nowhere, Op, InArena, Point, Replied, Reply, SetBound, Setting, Starved, Tells, Told, Turns, Unbind, batch_of, cached_in, cached_of, going, mine, pages_at, slots_at}
 pub use Rattle.call_plan.specs.declared.needs.Answered.TheVariants.{Ok}
 pub use Rattle.call_plan.specs.declared.needs.Given.TheVariants.{Region}
 pub use Rattle.call_plan.specs.declared.needs.Request.{Request}
 pub use Rattle.call_plan.specs.declared.needs.Request.TheVariants.{Bind, Publish}
 pub use Rattle.call_plan.specs.declared.points.AskPoint.{AskPoint}
-pub use Rattle.call_plan.specs.declared.points.AskPoint.TheVariants.{Committing, Decommitting, Easing, Forcing, Granting, Growing, Merging, Needing, Paring, Returning, Skipping, Trimming, Cutting, Extending, Sparing, Backing, Joining}
+pub use Rattle.call_plan.specs.declared.points.AskPoint.TheVariants.{Committing, Decommitting, PurgingLazily, Forcing, SplittingExact, Growing, Merging, GrowingExactly, SplittingGrown, Returning, Skipping, Trimming, Cutting, Extending, Sparing, Backing, Joining}
 pub use Rattle.call_plan.specs.declared.points.Resize.{Resize}
 pub use Rattle.call_plan.specs.declared.points.Change.{Change}
 pub use Rattle.call_plan.specs.declared.points.Change.TheVariants.{Leaves, Stops, Visits}
-pub use Rattle.call_plan.specs.declared.points.Then.{Then}
-pub use Rattle.call_plan.specs.declared.points.Then.TheVariants.{Batches, Visiting, Moving}
+pub use Rattle.call_plan.specs.declared.points.AfterFlight.{AfterFlight}
+pub use Rattle.call_plan.specs.declared.points.AfterFlight.TheVariants.{Batches, Visiting, Moving}
 pub use Rattle.call_plan.specs.declared.points.TurnPoint.{TurnPoint}
 pub use Rattle.call_plan.specs.declared.points.TurnPoint.TheVariants.{Changing, Destroying, Filling, Finding, Giving, Landing, Looking, Offering, Publishing, Resetting, Owning, Widening, Narrowing}
 pub use Rattle.hook_api.specs.Kept.{IsKept}

@@ -38,5 +38,11 @@ pub const CHUNKS: u64 = 1048575;
 /// How many pages of 4 KiB a chunk has.
 pub const CHUNK_PAGES: u64 = 512;
 
+/// The decay time of an arena's dirty extents where nobody set one, in milliseconds (`opt.dirty_decay_ms` in the manual).
+pub const DIRTY_MS: i64 = 10000;
+
+/// The decay time of an arena's muzzy extents where nobody set one, in milliseconds (`opt.muzzy_decay_ms` in the manual).
+pub const MUZZY_MS: i64 = 0;
+
 /// How many clients there may be. They are numbered from 0.
 pub const CLIENTS: u32 = 32;

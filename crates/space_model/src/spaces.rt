@@ -4,7 +4,7 @@ ghost use Rattle.std.specs.Prelude.{◌≡◌, []};
 ghost use Rattle.space_model.specs.Opening.{new_pace, first_space, absent_space};
 ghost use Rattle.space_model.specs.Journal.{Good};
 
-use crate::{Clients, Offers, Parts, Regions, Seq};
+use crate::{Clients, DIRTY_MS, MUZZY_MS, Offers, Parts, Regions, Seq};
 use std::alloc::Global;
 
 /// Pages that became unused at an epoch of a decay.
@@ -86,12 +86,6 @@ pub struct Space {
     /// The clients that are shrinking a region of it in place.
     pub trims: Clients,
 }
-
-/// The decay time of dirty extents where nobody set one, in milliseconds.
-const DIRTY_MS: i64 = 10000;
-
-/// The decay time of muzzy extents where nobody set one, in milliseconds.
-const MUZZY_MS: i64 = 0;
 
 /// The most chunks of a growth that no request needs.
 pub const MAX_SERIES: u64 = 16384;
