@@ -1,11 +1,12 @@
 -- A large region that takes another class: its extent is the one that begins at its address, and the slabs stay.
-use Rattle.arena_core.proofs.Words.{◌≡◌, ℕ, ◌*◌, ◌/◌, ◌<◌, ◌≤◌, Bool, true, false, not, IsTrue, List, [], ◌∷◌, get_or, find, filter, Option, None, Some, refl, sym, ◌∙◌, ap, subst, arith, ◌&&◌, nat_le, ◌+◌, All, Contains, take, drop, eqb, nat_lt, list_any, position_or_len, sum_by, IsSome, option_map, eqb-true, nat_tests, sum_by-filter_both, sum_by-cons, sum_by-insert, pages_at, large_size, size_bounds, Ask, Split, Merge, Answer, Done, Refuses, Span, Part, Region, Space, IsPlaced, same_span, end_of, begins_at, is_active, exchanged, is_flight_at, taken_out, houses, inserted, is_held_by, starts_at, address_of, is_slab, lies_in, has_large, is_large_at, large_home, reclassed, trim_answered, trim_done_stands, trimmed_at, after_join, after_trim_done, is_large_class, join_stands, widened_at, holds_at, found_passes, Sound, nothing_sum, only_one, both_true, two_left, home_found, housed, All-cons, All-contains_itself, All-nil, Contains-append_right, without_client, one_left, filter_nothing, find_has, find_passes, eqb_itself, lies_between, BinSlab, filter_same, head, booked_slab, IsBooked, begins_either, high_piece, joined, low_piece, any_has, found, Home, Housed}
+use Rattle.arena_core.proofs.Words.{◌≡◌, ℕ, ◌*◌, ◌/◌, ◌<◌, ◌≤◌, Bool, true, false, not, IsTrue, List, [], ◌∷◌, get_or, find, filter, Option, None, Some, refl, sym, ◌∙◌, ap, subst, arith, ◌&&◌, nat_le, ◌+◌, All, Contains, take, drop, eqb, nat_lt, list_any, position_or_len, sum_by, IsSome, option_map, eqb-true, nat_tests, sum_by-filter_both, sum_by-cons, sum_by-insert, pages_at, large_size, size_bounds, Ask, Split, Merge, Answer, Done, Span, Part, Region, Space, IsPlaced, same_span, end_of, begins_at, is_active, exchanged, is_flight_at, taken_out, houses, inserted, is_held_by, starts_at, address_of, is_slab, lies_in, has_large, is_large_at, large_home, reclassed, trim_answered, trim_done_stands, trimmed_at, after_join, after_trim_done, is_large_class, join_stands, widened_at, holds_at, found_passes, Sound, nothing_sum, only_one, both_true, two_left, home_found, housed, All-cons, All-contains_itself, All-nil, Contains-append_right, without_client, one_left, filter_nothing, find_has, find_passes, eqb_itself, lies_between, BinSlab, filter_same, head, booked_slab, IsBooked, begins_either, high_piece, joined, low_piece, any_has, found, Home, Housed}
 use Rattle.arena_core.proofs.Emptying.{begins_alone, ones}
 use Rattle.part_book.proofs.Searches.{found_there}
 use Rattle.arena_core.proofs.Booked.{class_stays, idle_no_slab, no_slab, same_slab}
 use Rattle.arena_core.proofs.Books.{same_any, still_booked}
 use Rattle.arena_core.proofs.Homes.{in_flight}
 use Rattle.arena_core.proofs.Still.{Idle, kept_exchanged, still, whole_still}
+use Rattle.space_model.specs.declared.Answer.TheVariants as answers
 
 -- What is known of a client's large region at an address, and of its extent, which passes a test.
 pub record Homed (c addr : ℕ) (s : Space) (test : Part → Bool) (home : Region × Part) : Type 0 where
@@ -87,7 +88,7 @@ pub shrinking_aside : (s : Space) (c class : ℕ) (ask : Ask) (answer : Answer) 
 shrinking_aside s c class (Split span left) Done clients =
     elim (large_home s c (4096 * span.first)) as (λ o. let step = trimmed_at s c left class o in
     trimmed_at (record s { trims = clients }) c left class o ≡ record { after = record step.after { trims = clients }; reply = step.reply }) [ None ↦ refl | Some home ↦ refl ]
-shrinking_aside s c class (Split span left) Refuses clients = refl
+shrinking_aside s c class (Split span left) answers.Refused clients = refl
 shrinking_aside s c class ask answer clients = refl
 
 -- What is known of a split whose answer may be taken in.
@@ -227,7 +228,7 @@ pub join_step : (c : ℕ) (s : Space) (class : ℕ) (ask : Ask) (answer : Answer
     IsBooked s slabs → IsBooked (after_join s c class ask answer).after slabs
 join_step c s class (Merge low high) Done slabs sound also stands are =
     join_by c s class low high (large_home s c (address_of low.first)) (find (is_flight_at c high) s.parts) slabs refl refl sound also stands are
-join_step c s class (Merge low high) Refuses slabs sound also stands are = still_booked s _ slabs are (whole_still s c high sound)
+join_step c s class (Merge low high) answers.Refused slabs sound also stands are = still_booked s _ slabs are (whole_still s c high sound)
 join_step c s class ask answer slabs sound also stands are = are
 
 trim_by : (c : ℕ) (s : Space) (class : ℕ) (span : Span) (left : ℕ) (o : Option (Region × Part)) (slabs : List BinSlab) → large_home s c (address_of span.first) ≡ o → Sound s →
@@ -257,5 +258,5 @@ pub trim_step : (c : ℕ) (s : Space) (class : ℕ) (ask : Ask) (answer : Answer
     IsBooked s slabs → IsBooked (after_trim_done s c class ask answer).after slabs
 trim_step c s class (Split span left) Done slabs sound also stands are =
     trim_by c s class span left (large_home s c (address_of span.first)) slabs refl sound also stands are
-trim_step c s class (Split span left) Refuses slabs sound also stands are = still_booked s _ slabs are (still s _ refl refl)
+trim_step c s class (Split span left) answers.Refused slabs sound also stands are = still_booked s _ slabs are (still s _ refl refl)
 trim_step c s class ask answer slabs sound also stands are = still_booked s _ slabs are (still s _ refl refl)

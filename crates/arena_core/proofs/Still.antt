@@ -1,7 +1,9 @@
 -- What leaves the extents that serve regions, and the regions, as they were.
-use Rattle.arena_core.proofs.Words.{◌≡◌, ℕ, ◌-◌, ◌<◌, Bool, true, false, not, cond, IsTrue, List, [], ◌∷◌, ◌++◌, append-nil, filter, find, Option, None, Some, refl, sym, ◌∙◌, ap, All, ◌||◌, ◌&&◌, arith, nat_lt, All-cons, All-nil, filter-append, Answer, Done, Refuses, Placed, Ask, Alloc, Commit, Dalloc, Decommit, Merge, PurgeLazy, Split, Abandoned, Kept, NoArena, Noted, Nothing, Purge, Setting, MakeLive, Why, Part, Region, Rest, Span, ToMuzzy, ToRetained, Flight, Space, begins_at, exchanged, is_active, is_flight_at, is_listed, next_flight, pages_listed, put_down, rest_of, taken_out, end_of, Stepped, if_live, is_lazy, stays, whole_at, fit, after_commit, after_cut, after_grow, after_look, after_merge, apart_at, begins_either, commit_at, cut_at, grow_unless, high_piece, is_left_of, is_like, is_purged, is_right_of, join_at, joined, look_at, low_piece, neighbour, put_at, put_at_rest, put_beside, why_not, after_decommit, after_lazy, after_offer, after_purge_take, decommit_at, is_regranted, lazy_at, offer_at, purge_at, without_offer, is_spare, widen_at, widen_by, after_set, is_absent, made_live, doom_at, is_dying, residents, IsQuiet, Sound, Life, Absent, Dying, Live, filter-begins_at, filter-without, find_has, find_passes, Listed, both_true, fit-listed, listed-idle, put_down-idle, some_pages, is_unused, is_live, inl, inr, subst, neighbour_side}
+use Rattle.arena_core.proofs.Words.{◌≡◌, ℕ, ◌-◌, ◌<◌, Bool, true, false, not, cond, IsTrue, List, [], ◌∷◌, ◌++◌, append-nil, filter, find, Option, None, Some, refl, sym, ◌∙◌, ap, All, ◌||◌, ◌&&◌, arith, nat_lt, All-cons, All-nil, filter-append, Answer, Done, Placed, Ask, Alloc, Commit, Dalloc, Decommit, Merge, PurgeLazy, Split, Abandoned, Kept, NoArena, Noted, Nothing, Purge, Setting, MakeLive, Why, Part, Region, Rest, Span, Flight, Space, begins_at, exchanged, is_active, is_flight_at, is_listed, next_flight, pages_listed, put_down, rest_of, taken_out, end_of, Stepped, if_live, is_lazy, stays, whole_at, fit, after_commit, after_cut, after_grow, after_look, after_merge, apart_at, begins_either, commit_at, cut_at, grow_unless, high_piece, is_left_of, is_like, is_purged, is_right_of, join_at, joined, look_at, low_piece, neighbour, put_at, put_at_rest, put_beside, why_not, after_decommit, after_lazy, after_offer, after_purge_take, decommit_at, is_regranted, lazy_at, offer_at, purge_at, without_offer, is_spare, widen_at, widen_by, after_set, is_absent, made_live, doom_at, is_dying, residents, IsQuiet, Sound, Life, Absent, Dying, Live, filter-begins_at, filter-without, find_has, find_passes, Listed, both_true, fit-listed, listed-idle, put_down-idle, some_pages, is_unused, is_live, inl, inr, subst, neighbour_side}
 use Rattle.arena_core.proofs.Emptying.{none_kept}
 use Rattle.arena_core.proofs.Homes.{in_flight}
+use Rattle.space_model.specs.declared.Answer.TheVariants as answers
+use Rattle.space_model.specs.declared.Rest.TheVariants as rests
 
 -- the extents that serve regions
 abbrev pub serving : List Part → List Part
@@ -104,7 +106,7 @@ cut_still s c true (Split span left) Done sound =
     flown s c span (cut_at s true left) (λ p. put_down (high_piece left p) ∷ low_piece left p ∷ []) sound (λ p. down_beside (high_piece left p) (low_piece left p)) (same s) (λ p. refl)
 cut_still s c false (Split span left) Done sound =
     flown s c span (cut_at s false left) (λ p. put_down (low_piece left p) ∷ high_piece left p ∷ []) sound (λ p. down_beside (low_piece left p) (high_piece left p)) (same s) (λ p. refl)
-cut_still s c keep_low (Split span left) Refuses sound = whole_still s c span sound
+cut_still s c keep_low (Split span left) answers.Refused sound = whole_still s c span sound
 cut_still s c keep_low ask answer sound = same s
 
 grow_by_still : (s : Space) (c : ℕ) (span : Span) (committed : Bool) (o : Option Why) → Still s (grow_unless s c span committed o).after
@@ -118,7 +120,7 @@ grow_still s c found ask answer = same s
 
 pub commit_still : (s : Space) (c : ℕ) (ask : Ask) (answer : Answer) → Sound s → Still s (after_commit s c ask answer).after
 commit_still s c (Commit span) Done sound = flown s c span (commit_at s) (λ p. record p { committed = true } ∷ []) sound (λ p idle. one (record p { committed = true }) idle) (same s) (λ p. refl)
-commit_still s c (Commit span) Refuses sound = whole_still s c span sound
+commit_still s c (Commit span) answers.Refused sound = whole_still s c span sound
 commit_still s c ask answer sound = same s
 
 -- ---- the steps of a free
@@ -158,7 +160,7 @@ apart_still s c false low high sound =
 
 pub merge_still : (s : Space) (c : ℕ) (own_low : Bool) (ask : Ask) (answer : Answer) → Sound s → Still s (after_merge s c own_low ask answer).after
 merge_still s c own_low (Merge low high) Done sound = join_still s c low high sound
-merge_still s c own_low (Merge low high) Refuses sound = apart_still s c own_low low high sound
+merge_still s c own_low (Merge low high) answers.Refused sound = apart_still s c own_low low high sound
 merge_still s c own_low ask answer sound = same s
 
 -- ---- the steps of a purge
@@ -170,7 +172,7 @@ purge_still s c rest keep sound =
     live_still s _ (elim (nat_lt keep (pages_listed rest s.parts)) as (λ b. Still s (cond b (purge_at s c rest (find oldest s.parts)) (stays s Nothing)).after) [ true ↦ took | false ↦ same s ])
 
 pub lazy_still : (s : Space) (c : ℕ) (ask : Ask) (answer : Answer) → Sound s → Still s (after_lazy s c ask answer).after
-lazy_still s c (PurgeLazy span) Done sound = flown s c span (lazy_at s c) (λ p. record p { state = Flight c ToMuzzy } ∷ []) sound (λ p idle. one (record p { state = Flight c ToMuzzy }) refl) (same s) (λ p. refl)
+lazy_still s c (PurgeLazy span) Done sound = flown s c span (lazy_at s c) (λ p. record p { state = Flight c rests.Muzzy } ∷ []) sound (λ p idle. one (record p { state = Flight c rests.Muzzy }) refl) (same s) (λ p. refl)
 lazy_still s c ask answer sound = same s
 
 pub decommit_still : (s : Space) (c : ℕ) (ask : Ask) (answer : Answer) → Sound s → Still s (after_decommit s c ask answer).after
@@ -184,9 +186,9 @@ offer_still s c span sound =
 
 pub offer_done_still : (s : Space) (c : ℕ) (found : Option ℕ) (ask : Ask) (answer : Answer) → Still s (after_offer s c found ask answer).after
 offer_done_still s c found (Dalloc span committed) Done = still s _ refl refl
-offer_done_still s c found (Dalloc span committed) Refuses =
+offer_done_still s c found (Dalloc span committed) answers.Refused =
     let t : Space = record s { offers = without_offer c span committed s.offers } in
-    let kept : Part = record { span = span; state = Flight c ToRetained; committed = committed } in
+    let kept : Part = record { span = span; state = Flight c rests.Retained; committed = committed } in
     elim (is_regranted found span s.parts) as (λ b. Still s (cond b (stays t (Abandoned (next_flight c s.parts))) (record { after = record t { parts = s.parts ++ kept ∷ [] }; reply = Kept })).after)
     [ true ↦ still s t refl refl | false ↦ record { parts = kept_behind (λ p. is_active p.state) s.parts (kept ∷ []) (one kept refl); regions = refl } ]
 offer_done_still s c found ask answer = same s

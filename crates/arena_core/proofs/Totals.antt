@@ -1,6 +1,7 @@
 -- The counts of bytes are those of pages, what is read of all extents, and what others have in an arena.
-use Rattle.arena_core.proofs.Words.{◌≡◌, ℕ, ◌+◌, ◌-◌, ◌*◌, ◌^◌, ◌<◌, ◌≤◌, Bool, true, false, cond, List, [], ◌∷◌, get_or, filter, refl, sym, arith, not, IsTrue, length, All, ◌&&◌, eqb, nat_le, list_any, sum_by, count_by, nat_tests, list_any_none, sum_by-cons, Part, Rest, ToDirty, ToMuzzy, ToRetained, State, Space, IsPlaced, chunk_span, meets, pages_end, is_active, is_listed, pages_listed, is_flight, is_in_flight, bytes_of, bytes_where, is_mapped, Sound, bytes_le, bytes_pages, listed_fit_space, mapped_sum, whole_sum, pages_of, active_pages, all_pages, Indexes, space_of, Offered, is_held_by, flight_count, reset_stands, all_sum_le, not_true, both_true, some_pages, count_same, any_false}
+use Rattle.arena_core.proofs.Words.{◌≡◌, ℕ, ◌+◌, ◌-◌, ◌*◌, ◌^◌, ◌<◌, ◌≤◌, Bool, true, false, cond, List, [], ◌∷◌, get_or, filter, refl, sym, arith, not, IsTrue, length, All, ◌&&◌, eqb, nat_le, list_any, sum_by, count_by, nat_tests, list_any_none, sum_by-cons, Part, Rest, State, Space, IsPlaced, chunk_span, meets, pages_end, is_active, is_listed, pages_listed, is_flight, is_in_flight, bytes_of, bytes_where, is_mapped, Sound, bytes_le, bytes_pages, listed_fit_space, mapped_sum, whole_sum, pages_of, active_pages, all_pages, Indexes, space_of, Offered, is_held_by, flight_count, reset_stands, all_sum_le, not_true, both_true, some_pages, count_same, any_false}
 use Rattle.arena_core.proofs.Emptying.{count_all, most_one}
+use Rattle.space_model.specs.declared.Rest.TheVariants as rests
 
 -- the pages of an extent whose state passes, or none
 abbrev pub pages_if : (State → Bool) → Part → ℕ
@@ -25,20 +26,20 @@ listed_fit rest i sound = omega (arith, listed_pages rest i.extents.parts, liste
 -- How the counts of a space come of the sums of pages.
 pub record Summed (parts : List Part) : Type 0 where
   pub active : 4096 * active_pages parts ≡ bytes_where is_active parts
-  pub dirty : 4096 * pages_of ToDirty parts ≡ bytes_where (is_listed ToDirty) parts
-  pub muzzy : 4096 * pages_of ToMuzzy parts ≡ bytes_where (is_listed ToMuzzy) parts
-  pub retained : 4096 * pages_of ToRetained parts ≡ bytes_where (is_listed ToRetained) parts
-  pub whole : 4096 * all_pages parts ≡ bytes_where is_mapped parts + bytes_where (is_listed ToRetained) parts
+  pub dirty : 4096 * pages_of rests.Dirty parts ≡ bytes_where (is_listed rests.Dirty) parts
+  pub muzzy : 4096 * pages_of rests.Muzzy parts ≡ bytes_where (is_listed rests.Muzzy) parts
+  pub retained : 4096 * pages_of rests.Retained parts ≡ bytes_where (is_listed rests.Retained) parts
+  pub whole : 4096 * all_pages parts ≡ bytes_where is_mapped parts + bytes_where (is_listed rests.Retained) parts
   pub mapped : bytes_where is_mapped parts
-      ≡ bytes_where is_active parts + bytes_where (is_listed ToDirty) parts + bytes_where (is_listed ToMuzzy) parts + bytes_where is_in_flight parts
+      ≡ bytes_where is_active parts + bytes_where (is_listed rests.Dirty) parts + bytes_where (is_listed rests.Muzzy) parts + bytes_where is_in_flight parts
   pub fits : 4096 * all_pages parts ≤ 2 ^ 41
 
 pub summed : (s : Space) → Sound s → Summed s.parts
 summed s sound = record {
   active = sym (where_pages is_active s.parts);
-  dirty = omega (arith, where_pages (is_listed ToDirty) s.parts, listed_pages ToDirty s.parts);
-  muzzy = omega (arith, where_pages (is_listed ToMuzzy) s.parts, listed_pages ToMuzzy s.parts);
-  retained = omega (arith, where_pages (is_listed ToRetained) s.parts, listed_pages ToRetained s.parts);
+  dirty = omega (arith, where_pages (is_listed rests.Dirty) s.parts, listed_pages rests.Dirty s.parts);
+  muzzy = omega (arith, where_pages (is_listed rests.Muzzy) s.parts, listed_pages rests.Muzzy s.parts);
+  retained = omega (arith, where_pages (is_listed rests.Retained) s.parts, listed_pages rests.Retained s.parts);
   whole = omega (arith, whole_sum s.parts, bytes_pages s.parts);
   mapped = mapped_sum s.parts;
   fits = omega (arith, bytes_le s sound, bytes_pages s.parts);
@@ -46,7 +47,7 @@ summed s sound = record {
 
 -- the pages of an arena's extents are few, and those of each kind are among them
 pub pages_few : (i : Indexes) → Sound (space_of i) →
-    (active_pages i.extents.parts + pages_of ToDirty i.extents.parts + pages_of ToMuzzy i.extents.parts + pages_of ToRetained i.extents.parts ≤ all_pages i.extents.parts)
+    (active_pages i.extents.parts + pages_of rests.Dirty i.extents.parts + pages_of rests.Muzzy i.extents.parts + pages_of rests.Retained i.extents.parts ≤ all_pages i.extents.parts)
     × (4096 * all_pages i.extents.parts ≤ 2 ^ 41)
 pages_few i sound = let sums = summed (space_of i) sound in (omega arith, sums.fits)
 

@@ -3,7 +3,7 @@ pub use Rattle.std.specs.List.{AllByRecursion as Every, list_all}
 pub use Rattle.std.proofs.Common.{ap, ◌∙◌, ◌≡◌, arith, rules, refl, sym, subst, length, OnOk, ◌≤◌, ℕ, ◌+◌, ◌-◌, ◌*◌, ◌<◌, zero, suc, Bool, true, false, not, ◌||◌, leb, ◌∷◌, Contains, filter, map, inl, inr, ◌≢◌, ◌/◌, cond, List, [], ◌++◌, append-nil, get_or, All, max, ◌&&◌, eqb, ltb, lt-ltb, find, Some, ◌⊎◌, Option, None, ltb as nat_lt, leb as nat_le, take, drop, IsTrue, if◌then◌else◌, slice_get, IfSome, IsSome, replicate, fold, ◌^◌, ◌↔◌, Result, Ok, Err, IfOk, OnErr, slice_set, append_assoc, add-one, drop-cons, length-set, le-ltb}
 pub use Rattle.space_model.proofs.Words.{list_any, range_with_len, sum_by, flat_map, position_or_len, count_by, option_map, mul-le-mul_left, cases_lt, eqb-true, leb-true, ltb-true, not-true, nat_tests, nil_from_length, take-append-drop, length-map, All-append, All-cons, All-filter, filter-append, All-map, All-nil, All-head, All-tail, filter_passes, recursion_from_All, All-weaker, All-push, sum_by-filter_both, list_any-append, length-range_with_len, sum_by-cons, sum_by-le-sum_by, length-filter, sum_by-insert, get_or-le-sum_by, sum_by-append, row_fits, size_bounds, slab_filled, large_size, regions_at, size_at, pages_at, region_bytes, bytes_of, bytes_where, is_mapped, region_bytes_where, doom_at, emptied, ended, flight_count, held_count, reset_stands, fit, is_held_at, is_published_at, take_over_at, Good, new_pace, absent_space, first_space, mine, is_dying, begins_at, is_active, turned_in_order, is_flight_at, taken_out, exchanged, holders, is_flight, placed, turned, is_listed, next_flight, pages_listed, put_down, rest_of, is_in_flight, listed, moved_to, after_decommit, after_lazy, after_offer, after_purge_take, decommit_at, is_regranted, lazy_at, offer_at, purge_at, without_offer, address_of, landing, region_of, regions_from, starts_at, houses, is_slab, lies_in, held_anew, inserted, residents, covers, homes, fills, is_held_by, is_published, large_home, is_spare, has_large, is_large_at, reclassed, trim_done_stands, trimmed_at, after_join, after_trim_done, is_large_class, join_stands, widened_at, widen_at, widen_by, is_in, without_client, after_set, is_absent, made_live, places, land_at, slabs_of, after_fill, fill_at, land_stands, lowest_free, most_regions, free_places, Sound, IsInSlab, IsQuiet, end_of, has_page, pages_end, IsPlaced, same_span, meets, chunk_span, is_live, op_stands, step_of, after_back, holds_at, is_emptied, is_given_back, staying, is_left_of, is_like, is_right_of, is_yes_or_no, merge_stands, reply_to, space_after, stands, rises_from, after_commit, after_cut, after_grow, after_look, after_merge, apart_at, begins_either, commit_at, cut_at, grow_unless, high_piece, is_purged, join_at, joined, look_at, low_piece, neighbour, put_at, put_at_rest, put_beside, why_not, cut_stands, Stepped, found_passes, if_live, stays, is_lazy, whole_at, is_unused}
 pub use Rattle.space_model.specs.declared.asks.Answer.{Answer}
-pub use Rattle.space_model.specs.declared.asks.Answer.TheVariants.{Done, Refused as Refuses, Placed}
+pub use Rattle.space_model.specs.declared.asks.Answer.TheVariants.{Done, Placed}
 pub use Rattle.space_model.specs.declared.asks.Ask.{Ask}
 pub use Rattle.space_model.specs.declared.asks.Ask.TheVariants.{Merge, Split, Alloc, Commit, Dalloc, Decommit, PurgeLazy}
 pub use Rattle.space_model.specs.declared.entries.Entry.{Entry}
@@ -18,7 +18,6 @@ pub use Rattle.space_model.specs.declared.parts.Offered.{Offered}
 pub use Rattle.space_model.specs.declared.parts.Part.{Part}
 pub use Rattle.space_model.specs.declared.parts.Region.{Region}
 pub use Rattle.space_model.specs.declared.parts.Rest.{Rest}
-pub use Rattle.space_model.specs.declared.parts.Rest.TheVariants.{Muzzy as ToMuzzy, Retained as ToRetained, Dirty as ToDirty}
 pub use Rattle.space_model.specs.declared.parts.Span.{Span}
 pub use Rattle.space_model.specs.declared.parts.State.{State}
 pub use Rattle.space_model.specs.declared.parts.State.TheVariants.{Active, Flight}

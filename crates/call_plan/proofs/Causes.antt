@@ -1,15 +1,17 @@
 -- Every answer has its cause: each step keeps the reasons of the point to which it leads.
-use Rattle.call_plan.proofs.Words.{◌≡◌, ℕ, Bool, false, List, [], ◌∷◌, ◌++◌, Option, None, Some, refl, ◌∙◌, ap, arith, Contains, Contains-append_left, Contains-append_right, fold-append, after_cut, after_commit, after_grow, why_not, Item, Alloc, Commit, Split, Answer, Placed, Refuses, Whole, Refuse, Bad, Grown, Space, Span, Why, answered_span, Extent, extent_after, extent_of, NothingFits}
+use Rattle.call_plan.proofs.Words.{◌≡◌, ℕ, Bool, false, List, [], ◌∷◌, ◌++◌, Option, None, Some, refl, ◌∙◌, ap, arith, Contains, Contains-append_left, Contains-append_right, fold-append, after_cut, after_commit, after_grow, why_not, Item, Alloc, Commit, Split, Answer, Placed, Whole, Bad, Grown, Space, Span, Why, answered_span, Extent, extent_after, extent_of, NothingFits}
+use Rattle.space_model.specs.declared.Answer.TheVariants as answers
+use Rattle.space_model.specs.declared.Reply.TheVariants as replies
 
 -- ---- what a reply says of the answer that its turn took in
 
-pub cut_whole : (s : Space) (c : ℕ) (keep_low : Bool) (span : Span) (left : ℕ) (answer : Answer) → Whole ≡ (after_cut s c keep_low (Split span left) answer).reply → answer ≡ Refuses
+pub cut_whole : (s : Space) (c : ℕ) (keep_low : Bool) (span : Span) (left : ℕ) (answer : Answer) → Whole ≡ (after_cut s c keep_low (Split span left) answer).reply → answer ≡ answers.Refused
 cut_whole s c keep_low span left answer e = grind arith
 
-pub commit_whole : (s : Space) (c : ℕ) (span : Span) (answer : Answer) → Whole ≡ (after_commit s c (Commit span) answer).reply → answer ≡ Refuses
+pub commit_whole : (s : Space) (c : ℕ) (span : Span) (answer : Answer) → Whole ≡ (after_commit s c (Commit span) answer).reply → answer ≡ answers.Refused
 commit_whole s c span answer e = grind arith
 
-pub grow_refused : (s : Space) (c : ℕ) (found : Option ℕ) (pages align : ℕ) (answer : Answer) → Refuse ≡ (after_grow s c found (Alloc false None pages align) answer).reply → answer ≡ Refuses
+pub grow_refused : (s : Space) (c : ℕ) (found : Option ℕ) (pages align : ℕ) (answer : Answer) → replies.Refused ≡ (after_grow s c found (Alloc false None pages align) answer).reply → answer ≡ answers.Refused
 grow_refused s c found pages align answer e = grind arith
 
 -- A placed range that was found bad, or granted.

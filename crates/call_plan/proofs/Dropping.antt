@@ -1,9 +1,11 @@
 -- What the turns of a call leave that purges extents: what it knows where it goes on.
-use Rattle.call_plan.proofs.Words.{inr, IsTrue, is_some, ◌≡◌, ℕ, ◌+◌, ◌-◌, ◌*◌, ◌<◌, ◌≤◌, ◌==◌, ◌&&◌, Bool, true, false, not, cond, [], ◌∷◌, ◌++◌, Option, None, Some, refl, sym, ◌∙◌, ap, subst, arith, All, filter, find, length, option_or, nat_tests, All-filter, All-head, filter-append, length-append, find-append, Offered, Dirty, Flight, IsPlaced, meets, exchanged, begins_at, is_flight, is_flight_at, is_listed, is_backed, rest_of, listed, taken_out, stays, is_lazy, next_flight, after_lazy, offer_at, offer_of, without_offer, is_offer, is_regranted, after_offer, after_decommit, after_purge_take, purge_at, count_listed, is_purgeable, find_passes, find_has, filter_nothing, none_counted, or_false, belongs, both_true, itself, Visit, AfterFlight, Visiting, Taking, Offering, PurgingLazily, Returning, Decommitting, Forcing, Dalloc, Decommit, PurgeLazy, Answer, Placed, Done, Refuses, Noted, Kept, Abandoned, Rest, ToDirty, ToMuzzy, ToRetained, Space, Part, Span, Sound, mine, same_span, AnswersTo, decommitted, eased, forced, put_purged, returned, takes_left, turn_replied, Idle, Flies, Droppable, HasOffered, IsThen, IsCalm, IsVisit, HasLeft, in_flight, Keeps, stages_then, stages_later, left, left_then, left_visit, stages_visit, left_turn, left_ask, flights_of}
+use Rattle.call_plan.proofs.Words.{inr, IsTrue, is_some, ◌≡◌, ℕ, ◌+◌, ◌-◌, ◌*◌, ◌<◌, ◌≤◌, ◌==◌, ◌&&◌, Bool, true, false, not, cond, [], ◌∷◌, ◌++◌, Option, None, Some, refl, sym, ◌∙◌, ap, subst, arith, All, filter, find, length, option_or, nat_tests, All-filter, All-head, filter-append, length-append, find-append, Offered, Dirty, Flight, IsPlaced, meets, exchanged, begins_at, is_flight, is_flight_at, is_listed, is_backed, rest_of, listed, taken_out, stays, is_lazy, next_flight, after_lazy, offer_at, offer_of, without_offer, is_offer, is_regranted, after_offer, after_decommit, after_purge_take, purge_at, count_listed, is_purgeable, find_passes, find_has, filter_nothing, none_counted, or_false, belongs, both_true, itself, Visit, AfterFlight, Visiting, Taking, Offering, PurgingLazily, Returning, Decommitting, Forcing, Dalloc, Decommit, PurgeLazy, Answer, Placed, Done, Noted, Kept, Abandoned, Rest, Space, Part, Span, Sound, mine, same_span, AnswersTo, decommitted, eased, forced, put_purged, returned, takes_left, turn_replied, Idle, Flies, Droppable, HasOffered, IsThen, IsCalm, IsVisit, HasLeft, in_flight, Keeps, stages_then, stages_later, left, left_then, left_visit, stages_visit, left_turn, left_ask, flights_of}
 use Rattle.call_plan.proofs.Lists.{find-none, filter-fewer, filter-swap, find-gone, filter-removed, passes_alone}
 use Rattle.call_plan.proofs.Own.{flights_exchanged}
 use Rattle.call_plan.proofs.Putting.{Room, fewer_room, found_at, begins_as, gone_flights, next_goes, drop_goes, visited_goes, listed_dirty}
 use Rattle.call_plan.proofs.Getting.{Onto, span_itself, begins_itself, replaced_idle}
+use Rattle.space_model.specs.declared.Answer.TheVariants as answers
+use Rattle.space_model.specs.declared.Rest.TheVariants as rests
 
 -- ---- an extent in flight that changes
 
@@ -34,14 +36,14 @@ changed_goes c s span later bound p piece offers is found spans same own settled
 
 -- ---- the lazy purge
 
-pub lazy_onto : (c : ℕ) (s : Space) (span : Span) (later : AfterFlight) (answer : Answer) → Sound s → (flies : Flies (mine c s) span (λ p. rest_of p.state ≡ ToDirty)) → IsThen later →
+pub lazy_onto : (c : ℕ) (s : Space) (span : Span) (later : AfterFlight) (answer : Answer) → Sound s → (flies : Flies (mine c s) span (λ p. rest_of p.state ≡ rests.Dirty)) → IsThen later →
     AnswersTo (PurgeLazy span) answer →
     Onto c (eased span later) (stages_then later) (left_ask (flights_of c s) (PurgingLazily span later)) (after_lazy s c (PurgeLazy span) answer)
 lazy_onto c s span later Done sound flies is kind =
     let p : Part = flies.part in
     let at = found_at c s span p sound flies.found in
-    rw at.found (changed_goes c s span later _ p (record p { state = Flight c ToMuzzy }) flies.calm is flies.found at.spans refl (itself c) refl (omega arith))
-lazy_onto c s span later Refuses sound flies is kind =
+    rw at.found (changed_goes c s span later _ p (record p { state = Flight c rests.Muzzy }) flies.calm is flies.found at.spans refl (itself c) refl (omega arith))
+lazy_onto c s span later answers.Refused sound flies is kind =
     ((record { part = flies.part; found = flies.found; is = rw flies.is refl; calm = flies.calm }, is), inr (refl, omega arith))
 lazy_onto c s span later (Placed b zeroed first) sound flies is kind = absurd (kind first b zeroed refl)
 
@@ -85,10 +87,10 @@ kept_goes : (c : ℕ) (s : Space) (span : Span) (later : AfterFlight) (found : O
     is_regranted found span s.parts ≡ v →
     Onto c (returned span later) (stages_then later) (30 * flights_of c s + 12 + left_then later)
     (cond v (stays s (Abandoned (next_flight c s.parts)))
-    (record { after = record s { parts = s.parts ++ record { span = span; state = Flight c ToRetained; committed = true } ∷ [] }; reply = Kept }))
+    (record { after = record s { parts = s.parts ++ record { span = span; state = Flight c rests.Retained; committed = true } ∷ [] }; reply = Kept }))
 kept_goes c s span later found true offers is some e = next_goes c s (stages_then later) _ later offers is (inr (refl, omega arith))
 kept_goes c s span later found false offers is some e =
-    let piece : Part = record { span = span; state = Flight c ToRetained; committed = true } in
+    let piece : Part = record { span = span; state = Flight c rests.Retained; committed = true } in
     let flies : Part → Bool = λ q. is_flight c q.state in
     let t : Space = record s { parts = s.parts ++ piece ∷ [] } in
     let none : filter (λ q. meets q.span span) (mine c s).flights ≡ [] =
@@ -107,27 +109,27 @@ pub return_onto : (c : ℕ) (s : Space) (span : Span) (later : AfterFlight) (fou
     Onto c (returned span later) (stages_then later) (left_ask (flights_of c s) (Returning span later)) (after_offer s c found (Dalloc span true) answer)
 return_onto c s span later found Done sound has is kind =
     next_goes c (record s { offers = without_offer c span true s.offers }) (stages_then later) _ later (offer_gone c s span has, has.trims) is (inr (refl, omega arith))
-return_onto c s span later found Refuses sound has is kind =
+return_onto c s span later found answers.Refused sound has is kind =
     kept_goes c (record s { offers = without_offer c span true s.offers }) span later found (is_regranted found span s.parts) (offer_gone c s span has, has.trims) is (offer_some c s span sound has) refl
 return_onto c s span later found (Placed b zeroed first) sound has is kind = absurd (kind first b zeroed refl)
 
 -- ---- the decommit and the forced purge
 
-retained_settled : (r : Rest) → r ≡ ToRetained → is_listed r Dirty ≡ false
+retained_settled : (r : Rest) → r ≡ rests.Retained → is_listed r Dirty ≡ false
 retained_settled r h = rw h refl
 
 pub decommit_onto : (c : ℕ) (s : Space) (span : Span) (later : AfterFlight) (answer : Answer) → Sound s →
-    (flies : Flies (mine c s) span (λ p. (p.committed ≡ true) × (rest_of p.state ≡ ToRetained))) → IsThen later → AnswersTo (Decommit span) answer →
+    (flies : Flies (mine c s) span (λ p. (p.committed ≡ true) × (rest_of p.state ≡ rests.Retained))) → IsThen later → AnswersTo (Decommit span) answer →
     Onto c (decommitted span later) (stages_then later) (left_ask (flights_of c s) (Decommitting span later)) (after_decommit s c (Decommit span) answer)
 decommit_onto c s span later Done sound flies is kind =
     let p : Part = flies.part in
     let at = found_at c s span p sound flies.found in
     rw at.found (changed_goes c s span later _ p (record p { committed = false }) flies.calm is flies.found at.spans refl at.own (retained_settled (rest_of p.state) flies.is.1) (omega arith))
-decommit_onto c s span later Refuses sound flies is kind =
+decommit_onto c s span later answers.Refused sound flies is kind =
     (((record { part = flies.part; found = flies.found; is = flies.is.1; calm = flies.calm }, is), tt), inr (refl, omega arith))
 decommit_onto c s span later (Placed b zeroed first) sound flies is kind = absurd (kind first b zeroed refl)
 
-pub forced_onto : (c : ℕ) (s : Space) (span : Span) (later : AfterFlight) → (flies : Flies (mine c s) span (λ p. rest_of p.state ≡ ToRetained)) → IsThen later →
+pub forced_onto : (c : ℕ) (s : Space) (span : Span) (later : AfterFlight) → (flies : Flies (mine c s) span (λ p. rest_of p.state ≡ rests.Retained)) → IsThen later →
     Onto c (forced span later) (stages_then later) (left_ask (flights_of c s) (Forcing span later)) (stays s Noted)
 forced_onto c s span later flies is =
     purged_goes c s span later _ flies.part flies.calm is flies.found (retained_settled (rest_of flies.part.state) flies.is) (omega arith)
@@ -156,7 +158,7 @@ took_goes c s visit left (Some p) e idle is some =
     let count : flights_of c t ≡ length (taken ∷ []) = ap length flights in
     let rest : rest_of p.state ≡ visit.rest = belongs visit.rest p.state (find_passes (λ q. is_listed visit.rest q.state) s.parts p e) in
     let n : ℕ = count_listed visit.rest s.parts in
-    drop_goes c t (stages_visit visit left) (left_visit left) p.span (is_listed visit.rest (listed ToDirty) && is_lazy s) (Visiting visit (takes_left left n)) taken idle.calm is found
+    drop_goes c t (stages_visit visit left) (left_visit left) p.span (is_listed visit.rest (listed rests.Dirty) && is_lazy s) (Visiting visit (takes_left left n)) taken idle.calm is found
     (λ h. rest ∙ listed_dirty visit.rest (both_true (is_listed visit.rest Dirty) _ h).0)
     (rw rest (purgeable_backed visit.rest is))
     (fewer_room (stages_visit visit left) (left_visit left) (Visiting visit (takes_left left n)) (30 * (flights_of c t - 1) + 16) 16 (omega (arith, count)) (visit_room visit left n some))

@@ -1,9 +1,10 @@
 -- What the turns of a call leave that gets an extent: what it knows where it goes on.
-use Rattle.call_plan.proofs.Words.{min, ◌≡◌, ◌≢◌, ℕ, ◌+◌, ◌-◌, ◌<◌, ◌≤◌, Bool, true, false, not, cond, List, [], ◌∷◌, ◌++◌, Option, None, Some, refl, sym, ◌∙◌, ap, subst, arith, filter, find, count_ones, is_power_of_two, nat_tests, cond_both, leb-true, eqb-true, ones_le_self, filter-append, pages_bounds, run_start, holds_run, exchanged, begins_at, is_flight, is_flight_at, put_down, taken_out, listed, rest_of, fit, Stepped, whole_at, after_cut, cut_at, kept_piece, other_piece, after_look, look_at, after_grow, grow_unless, why_not, new_part, after_commit, commit_at, put_down-nobody, both_true, fit_best, itself, Wish, Looking, Landing, Next, Alloc, Commit, Split, Answer, Placed, Done, Refuses, Reply, Noted, Cut, Whole, Bad, Grown, Space, Part, Span, Why, mine, same_span, end_of, land_at, AnswersTo, commit, got, grant, grow, trim, skip_to, turn_replied, IsWish, Idle, Alone, Gets, is_served, in_flight, Keeps}
+use Rattle.call_plan.proofs.Words.{min, ◌≡◌, ◌≢◌, ℕ, ◌+◌, ◌-◌, ◌<◌, ◌≤◌, Bool, true, false, not, cond, List, [], ◌∷◌, ◌++◌, Option, None, Some, refl, sym, ◌∙◌, ap, subst, arith, filter, find, count_ones, is_power_of_two, nat_tests, cond_both, leb-true, eqb-true, ones_le_self, filter-append, pages_bounds, run_start, holds_run, exchanged, begins_at, is_flight, is_flight_at, put_down, taken_out, listed, rest_of, fit, Stepped, whole_at, after_cut, cut_at, kept_piece, other_piece, after_look, look_at, after_grow, grow_unless, why_not, new_part, after_commit, commit_at, put_down-nobody, both_true, fit_best, itself, Wish, Looking, Landing, Next, Alloc, Commit, Split, Answer, Placed, Done, Reply, Noted, Cut, Whole, Bad, Grown, Space, Part, Span, Why, mine, same_span, end_of, land_at, AnswersTo, commit, got, grant, grow, trim, skip_to, turn_replied, IsWish, Idle, Alone, Gets, is_served, in_flight, Keeps}
 use Rattle.space_model.specs.Stepped.{is_live}
 use Rattle.call_plan.specs.Words.{Refuse as Refused}
 use Rattle.call_plan.proofs.Lists.{passes_alone}
 use Rattle.call_plan.proofs.Own.{flight_found, flights_exchanged}
+use Rattle.space_model.specs.declared.Answer.TheVariants as answers
 
 -- a wish has a page at least
 pub wish_some : (wish : Wish) → IsWish wish → 0 < wish.pages
@@ -128,7 +129,7 @@ pub cut_onto : (c : ℕ) (s : Space) (f : Reply → Next) (stage bound : ℕ) (k
     AnyAfter c s (λ t. Idle (mine c t) → Keeps c t stage bound (f Whole)) → Onto c f stage bound (after_cut s c keep_low (Split span left) answer)
 cut_onto c s f stage bound keep_low span left b Done alone kind on_cut on_whole =
     subst (λ o. Onto c f stage bound (cut_at s keep_low left o)) (sym (alone_found c s span b alone)) (cut_done c s f stage bound keep_low span left b alone on_cut)
-cut_onto c s f stage bound keep_low span left b Refuses alone kind on_cut on_whole = whole_onto c s f stage bound span b alone on_whole
+cut_onto c s f stage bound keep_low span left b answers.Refused alone kind on_cut on_whole = whole_onto c s f stage bound span b alone on_whole
 cut_onto c s f stage bound keep_low span left b (Placed is_committed zeroed first) alone kind on_cut on_whole = absurd (kind first is_committed zeroed refl)
 
 -- the answer to a commit
@@ -148,7 +149,7 @@ commit_onto c s f stage bound span b Done alone kind on_noted on_whole =
       calm = alone.calm;
     } in
     subst (λ o. Onto c f stage bound (commit_at s o)) (sym (alone_found c s span b alone)) (on_noted t (refl, refl) still)
-commit_onto c s f stage bound span b Refuses alone kind on_noted on_whole = whole_onto c s f stage bound span b alone on_whole
+commit_onto c s f stage bound span b answers.Refused alone kind on_noted on_whole = whole_onto c s f stage bound span b alone on_whole
 commit_onto c s f stage bound span b (Placed is_committed zeroed first) alone kind on_noted on_whole = absurd (kind first is_committed zeroed refl)
 
 -- the answer to an alloc
@@ -173,7 +174,7 @@ pub alloc_onto : (c : ℕ) (s : Space) (f : Reply → Next) (stage bound : ℕ) 
     AnyAfter c s (λ t. Idle (mine c t) → (why : Why) → Keeps c t stage bound (f (Bad why))) →
     AnyAfter c s (λ t. (span : Span) (b : Bool) → span.pages ≡ pages → Alone (mine c t) span b → Keeps c t stage bound (f (Grown span b))) →
     Onto c f stage bound (after_grow s c found (Alloc false place pages align) answer)
-alloc_onto c s f stage bound found place pages align Refuses idle kind on_refused on_bad on_grown = on_refused s (refl, refl) idle
+alloc_onto c s f stage bound found place pages align answers.Refused idle kind on_refused on_bad on_grown = on_refused s (refl, refl) idle
 alloc_onto c s f stage bound found place pages align (Placed b zeroed first) idle kind on_refused on_bad on_grown =
     let span : Span = record { first = first; pages = pages } in
     grown_onto c s f stage bound span b (why_not found align s.parts span) idle on_bad (λ t e alone. on_grown t e span b refl alone)

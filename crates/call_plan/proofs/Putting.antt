@@ -1,9 +1,11 @@
 -- What the turns of a call leave that puts extents down: what it knows where it goes on.
-use Rattle.call_plan.proofs.Words.{append-nil, inl, inr, ◌⊎◌, ◌≡◌, ◌≢◌, ℕ, ◌+◌, ◌-◌, ◌*◌, ◌<◌, ◌≤◌, ◌==◌, ◌&&◌, ◌||◌, Bool, true, false, not, cond, List, [], ◌∷◌, ◌++◌, Option, None, Some, refl, sym, ◌∙◌, ap, subst, arith, filter, find, length, lt-ltb, beq, option_map, option_or, nat_tests, cond_both, eqb-true, or_right, length-append, find-append, filter-append, filter-without, Dirty, exchanged, begins_at, is_flight, is_flight_at, is_listed, rest_of, put_down, taken_out, Stepped, joined, begins_either, is_lazy, is_purged, next_flight, is_like, is_right_of, is_left_of, neighbour, put_at_rest, put_beside, may_merge, join_at, after_merge, after_back, find_passes, find_has, filter-begins_at, span_is, neighbour_side, belongs, some_pages, put_down-nobody, listed-nobody, both_true, itself, AfterFlight, Batches, Giving, Finding, Point, Turns, Merge, Answer, Placed, Done, Refuses, Purge, Rest, ToDirty, Space, Part, Span, Sound, mine, same_span, end_of, AnswersTo, look_on, merged, onward, put_next, turn_replied, visited, Idle, Flies, HasPair, Settled, Droppable, IsThen, IsCalm, in_flight, Keeps, IsNearer, stages, stages_then, stages_later, left, left_then, left_turn, flights_of, looks_left, purges_left, Visit}
+use Rattle.call_plan.proofs.Words.{append-nil, inl, inr, ◌⊎◌, ◌≡◌, ◌≢◌, ℕ, ◌+◌, ◌-◌, ◌*◌, ◌<◌, ◌≤◌, ◌==◌, ◌&&◌, ◌||◌, Bool, true, false, not, cond, List, [], ◌∷◌, ◌++◌, Option, None, Some, refl, sym, ◌∙◌, ap, subst, arith, filter, find, length, lt-ltb, beq, option_map, option_or, nat_tests, cond_both, eqb-true, or_right, length-append, find-append, filter-append, filter-without, Dirty, exchanged, begins_at, is_flight, is_flight_at, is_listed, rest_of, put_down, taken_out, Stepped, joined, begins_either, is_lazy, is_purged, next_flight, is_like, is_right_of, is_left_of, neighbour, put_at_rest, put_beside, may_merge, join_at, after_merge, after_back, find_passes, find_has, filter-begins_at, span_is, neighbour_side, belongs, some_pages, put_down-nobody, listed-nobody, both_true, itself, AfterFlight, Batches, Giving, Finding, Point, Turns, Merge, Answer, Placed, Done, Purge, Rest, Space, Part, Span, Sound, mine, same_span, end_of, AnswersTo, look_on, merged, onward, put_next, turn_replied, visited, Idle, Flies, HasPair, Settled, Droppable, IsThen, IsCalm, in_flight, Keeps, IsNearer, stages, stages_then, stages_later, left, left_then, left_turn, flights_of, looks_left, purges_left, Visit}
 use Rattle.call_plan.specs.Table.{drop}
 use Rattle.call_plan.proofs.Lists.{filter-swap, find-kept, find-none, filter-fewer, filter-either, first_heads, none_passes, find-gone}
 use Rattle.call_plan.proofs.Own.{flight_found, flights_exchanged}
 use Rattle.call_plan.proofs.Getting.{Onto, span_itself, begins_itself}
+use Rattle.space_model.specs.declared.Answer.TheVariants as answers
+use Rattle.space_model.specs.declared.Rest.TheVariants as rests
 
 -- ---- what follows
 
@@ -186,11 +188,11 @@ rest_onto c s own tries fresh later p offers is found =
 
 -- an extent is purged lazily, or offered to its hook
 pub drop_goes : (c : ℕ) (t : Space) (stage bound : ℕ) (span : Span) (lazy : Bool) (later : AfterFlight) (p : Part) → IsCalm (mine c t) → IsThen later →
-    in_flight span (mine c t).flights ≡ Some p → (lazy ≡ true → rest_of p.state ≡ ToDirty) → Droppable p → Room stage bound later (30 * (flights_of c t - 1) + 16) →
+    in_flight span (mine c t).flights ≡ Some p → (lazy ≡ true → rest_of p.state ≡ rests.Dirty) → Droppable p → Room stage bound later (30 * (flights_of c t - 1) + 16) →
     Keeps c t stage bound (drop span lazy later)
 drop_goes c t stage bound span lazy later p offers is found dirty backed room = grind (arith, near, dirty)
 
-pub listed_dirty : (r : Rest) → is_listed r Dirty ≡ true → r ≡ ToDirty
+pub listed_dirty : (r : Rest) → is_listed r Dirty ≡ true → r ≡ rests.Dirty
 listed_dirty r h = grind arith
 
 -- an extent that belongs to the dirty ones, of which none may stay, is dropped
@@ -286,9 +288,9 @@ merge_onto c s low high own_low fresh later answer sound pair is kind =
         Onto c (merged own_low fresh later) (stages_then later) (30 * (flights_of c s - 2) + cond own_low 5 2 + purges_left fresh + left_then later) (after_merge s c own_low (Merge low high) answer)
     by_answer own_low Done at to below kind =
         rw (at.found, to.found) (join_onto c s low high own_low fresh later pair.low_part pair.high_part pair.calm is pair.low_settled pair.low_found pair.high_found at to pair.side_by_side)
-    by_answer true Refuses at to below kind =
+    by_answer true answers.Refused at to below kind =
         rw (at.found, to.found) (apart_goes c s low high true fresh later pair.low_part pair.high_part pair.calm is pair.low_settled pair.low_found pair.high_found at to (λ e. absurd (omega (arith, e, below))))
-    by_answer false Refuses at to below kind =
+    by_answer false answers.Refused at to below kind =
         rw (at.found, to.found) (apart_goes c s high low false fresh later pair.high_part pair.low_part pair.calm is pair.high_settled pair.high_found pair.low_found to at (λ e. absurd (omega (arith, e, below))))
     by_answer own_low (Placed b zeroed first) at to below kind = absurd (kind first b zeroed refl)
 

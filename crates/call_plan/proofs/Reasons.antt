@@ -1,5 +1,5 @@
 -- The reasons of each point to which a call comes, and of its answer.
-use Rattle.call_plan.proofs.Words.{rules, ◌≡◌, ℕ, ◌+◌, ◌-◌, ◌<◌, ◌*◌, ◌^◌, ◌⊎◌, inl, inr, Bool, true, false, not, max, List, [], ◌∷◌, ◌++◌, Option, None, Some, refl, sym, ◌∙◌, ap, subst, arith, nat_lt, append_assoc, Contains, cond_both, ltb-true, not-true, not-false, nat_tests, step_of, after_cut, after_commit, after_grow, Request, Malloc, Memalign, Free, FreeForeign, Publish, Take, Item, Replied, Told, Starved, Refused, BadAnswer, NotHeld, aligned_for, class_for, held_at, hit, Wish, AfterFlight, Batches, Visiting, Change, Stops, Visits, Leaves, TurnPoint, Filling, Looking, Landing, Finding, Taking, Offering, Advancing, Changing, Making, Resetting, Destroying, Owning, AskPoint, Skipping, Trimming, Growing, SplittingGrown, GrowingExactly, SplittingExact, Committing, Merging, PurgingLazily, Returning, Decommitting, Forcing, Point, Turns, Asks, Tells, Next, Go, InArena, NotLive, NextBatch, Ends, Stage, Refuses, Reply, NoArena, Nothing, Noted, Taken, Took, Cut, Whole, Refuse, Bad, Grown, Landed, Regions, Owned, Space, Span, Why, Sound, AskFacts, Held, DeskFacts, answered_span, alloc_of, ask_at, done_at, op_at, is_marked, starved, whole_chunks, step, turn_replied, told, commit, trim, put_next, took_over, begin, begin_free, begin_get, begin_malloc, begin_memalign, begin_publish, begin_stage, is_alignment, page_align, small_hit, step_next, wish_for, with_found, extent, extent_of, NothingFits, WasGranted, IsNeeded, IsWishOf, RegionCause, GivenCause, CauseIn, Came, AllCame, AnswersHaveCauses, Visit, visit_gives, visited, DoneCause, TakenBelow, FullCause, Empties, TellsTime, ◌==◌, cond, Finished, Giving, Widening, Narrowing, Moving, Cutting, Extending, Sparing, Backing, Joining, Move, Resize, Realloc, behind, spare, extend, got, gives, get, share, gaining, hitting, reclassing, resizing, taking_place, held_region, desk_turned, desk_told, desk_fed, desk_moved, desk_resized, desk_realloced, move_stage, are_large, resize_to, resize_at, begin_desk, begin_resize, begin_realloc, gave, eqb-true, run, sharing, landed_behind}
+use Rattle.call_plan.proofs.Words.{rules, ◌≡◌, ℕ, ◌+◌, ◌-◌, ◌<◌, ◌*◌, ◌^◌, ◌⊎◌, inl, inr, Bool, true, false, not, max, List, [], ◌∷◌, ◌++◌, Option, None, Some, refl, sym, ◌∙◌, ap, subst, arith, nat_lt, append_assoc, Contains, cond_both, ltb-true, not-true, not-false, nat_tests, step_of, after_cut, after_commit, after_grow, Request, Malloc, Memalign, Free, FreeForeign, Publish, Take, Item, Replied, Told, Starved, Refused, BadAnswer, NotHeld, aligned_for, class_for, held_at, hit, Wish, AfterFlight, Batches, Visiting, Change, Stops, Visits, Leaves, TurnPoint, Filling, Looking, Landing, Finding, Taking, Offering, Advancing, Changing, Making, Resetting, Destroying, Owning, AskPoint, Skipping, Trimming, Growing, SplittingGrown, GrowingExactly, SplittingExact, Committing, Merging, PurgingLazily, Returning, Decommitting, Forcing, Point, Turns, Asks, Tells, Next, Go, InArena, NotLive, NextBatch, Ends, Stage, Reply, NoArena, Nothing, Noted, Taken, Took, Cut, Whole, Bad, Grown, Landed, Regions, Owned, Space, Span, Why, Sound, AskFacts, Held, DeskFacts, answered_span, alloc_of, ask_at, done_at, op_at, is_marked, starved, whole_chunks, step, turn_replied, told, commit, trim, put_next, took_over, begin, begin_free, begin_get, begin_malloc, begin_memalign, begin_publish, begin_stage, is_alignment, page_align, small_hit, step_next, wish_for, with_found, extent, extent_of, NothingFits, WasGranted, IsNeeded, IsWishOf, RegionCause, GivenCause, CauseIn, Came, AllCame, AnswersHaveCauses, Visit, visit_gives, visited, DoneCause, TakenBelow, FullCause, Empties, TellsTime, ◌==◌, cond, Finished, Giving, Widening, Narrowing, Moving, Cutting, Extending, Sparing, Backing, Joining, Move, Resize, Realloc, behind, spare, extend, got, gives, get, share, gaining, hitting, reclassing, resizing, taking_place, held_region, desk_turned, desk_told, desk_fed, desk_moved, desk_resized, desk_realloced, move_stage, are_large, resize_to, resize_at, begin_desk, begin_resize, begin_realloc, gave, eqb-true, run, sharing, landed_behind}
 use Rattle.call_plan.specs.Causes.{CauseOf}
 use Rattle.call_plan.specs.Desks.{meant, ready}
 use Rattle.call_plan.specs.Words.{Answered, Ok, Refused, BadAnswer, TooLarge, BadAlign, NotHeld, NoSuchArena, Busy, NoMemory, ArenasFull, Automatic, NoCache, CachesFull}
@@ -10,6 +10,8 @@ use Rattle.std.proofs.lemmas.List.{replicate-append-replicate}
 use Rattle.call_plan.proofs.Aligned.{failing_is_not, passing_is}
 use Rattle.call_plan.proofs.Bounds.{Settles, close_keeps, move_keeps, run_keeps}
 use Rattle.call_plan.proofs.Causes.{cut_whole, commit_whole, grow_refused, grow_bad, grow_grown, last_in, more_in, extent_next, fits_more}
+use Rattle.space_model.specs.declared.Answer.TheVariants as answers
+use Rattle.space_model.specs.declared.Reply.TheVariants as replies
 
 -- a choice of two things by one test
 both_cond : {X Y : Type 0} (Q : X → Y → Type 0) (v : Bool) (a b : X) (x y : Y) → (v ≡ true → Q a x) → (v ≡ false → Q b y) → Q (cond v a b) (cond v x y)
@@ -257,7 +259,7 @@ module _ (desk : DeskFacts) where
 
   -- a refused ask that was needed is why the call is refused
   refused_why : (request : Request) (items : List Item) (now : DeskFacts) (point : AskPoint) (asked : AskFacts) (wish : Wish) (reply : Reply) → IsWishOf request wish → (why : HeardWhy request items now point asked) →
-      asked.answer ≡ Refuses → IsNeeded wish why.earlier (ask_at point) → CauseIn desk request (items ++ Replied reply ∷ []) (Refused asked)
+      asked.answer ≡ answers.Refused → IsNeeded wish why.earlier (ask_at point) → CauseIn desk request (items ++ Replied reply ∷ []) (Refused asked)
   refused_why request items now point asked wish reply wished why refused needed = record {
     wish = wish;
     wished = wished;
@@ -305,13 +307,13 @@ module _ (desk : DeskFacts) where
   told_why request items now c (Skipping wish span b skip) asked (Cut high) why came = trim_why request _ now wish high b (cut_had request items why.earlier asked wish span high b why.told why.why)
   told_why request items now c (Trimming wish span b) asked (Cut low) why came = commit_why request _ now wish low b (cut_had request items why.earlier asked wish span low b why.told why.why)
   told_why request items now c (SplittingGrown wish span b) asked (Cut low) why came = commit_why request _ now wish low b (cut_had request items why.earlier asked wish span low b why.told why.why)
-  told_why request items now c (Growing wish chunks) asked Refuse why came =
-      (why.why.0, fits_more items (Replied Refuse) (subst NothingFits (sym why.told) (fits_more why.earlier (Told asked) why.why.1)))
+  told_why request items now c (Growing wish chunks) asked replies.Refused why came =
+      (why.why.0, fits_more items (Replied replies.Refused) (subst NothingFits (sym why.told) (fits_more why.earlier (Told asked) why.why.1)))
   told_why request items now c (Growing wish chunks) asked (Bad reason) why (s, sound, found, replied) = bad_why request items now (Growing wish chunks) asked wish (chunks * 512) reason why.why.0 why refl s sound c found replied
   told_why request items now c (Growing wish chunks) asked (Grown span b) why came = (why.why.0, extent_next items (Replied (Grown span b)) (extent_of items) refl)
-  told_why request items now c (GrowingExactly wish) asked Refuse why (s, sound, found, replied) =
-      refused_why request items now (GrowingExactly wish) asked wish Refuse why.why.0 why
-      (grow_refused s c found (whole_chunks wish.pages) (max 512 wish.align) asked.answer (subst (λ a. Refuse ≡ (after_grow s c found a asked.answer).reply) why.is replied)) (refl, refl, why.why.1)
+  told_why request items now c (GrowingExactly wish) asked replies.Refused why (s, sound, found, replied) =
+      refused_why request items now (GrowingExactly wish) asked wish replies.Refused why.why.0 why
+      (grow_refused s c found (whole_chunks wish.pages) (max 512 wish.align) asked.answer (subst (λ a. replies.Refused ≡ (after_grow s c found a asked.answer).reply) why.is replied)) (refl, refl, why.why.1)
   told_why request items now c (GrowingExactly wish) asked (Bad reason) why (s, sound, found, replied) = bad_why request items now (GrowingExactly wish) asked wish (whole_chunks wish.pages) reason why.why.0 why refl s sound c found replied
   told_why request items now c (GrowingExactly wish) asked (Grown span b) why (s, sound, found, replied) =
       let had : Had request (items ++ Replied (Grown span b) ∷ []) wish span b = (why.why.0, extent_next items (Replied (Grown span b)) (extent_of items) refl) in
@@ -328,7 +330,7 @@ module _ (desk : DeskFacts) where
       (commit_whole s c span asked.answer (subst (λ a. Whole ≡ (after_commit s c a asked.answer).reply) why.is replied)) why.why.1
   told_why request items now c (Cutting resize) asked (Cut high) why came = reclassed_why request _ now resize why.why
   told_why request items now c (Cutting resize) asked Whole why came = why.why.0
-  told_why request items now c (Extending resize) asked Refuse why came = why.why.0
+  told_why request items now c (Extending resize) asked replies.Refused why came = why.why.0
   told_why request items now c (Extending resize) asked (Bad reason) why came = why.why.0
   told_why request items now c (Extending resize) asked (Grown span b) why came = extend_why request _ now resize span b why.why
   told_why request items now c (Sparing resize span true) asked (Cut low) why came = why.why

@@ -1,10 +1,11 @@
 -- What stands after each refused ask.
-use Rattle.call_plan.proofs.Words.{◌≡◌, ℕ, ◌+◌, Bool, true, false, cond, Option, Some, ◌∙◌, ap, subst, arith, find, lost, won, is_flight_at, Stepped, whole_at, apart_at, next_flight, step_of, is_regranted, Replied, Refused, AskPoint, Skipping, Trimming, Growing, SplittingGrown, GrowingExactly, SplittingExact, Committing, Merging, PurgingLazily, Returning, Decommitting, Forcing, Asks, Next, Ends, Refuses, Reply, Whole, Joined, Kept, Abandoned, Part, Space, Span, Sound, mine, AskFacts, ask_at, done_at, need_chunks, told, Alone, Flies, Idle, KnowsAsk, Keeps, flights_of, left_ask, stages_ask, with_found, AfterDalloc, AfterRefusal, HoldsExtent, Rests, RefusalsStand, Cutting, Extending, Sparing, Backing, Joining, move}
+use Rattle.call_plan.proofs.Words.{◌≡◌, ℕ, ◌+◌, Bool, true, false, cond, Option, Some, ◌∙◌, ap, subst, arith, find, lost, won, is_flight_at, Stepped, whole_at, apart_at, next_flight, step_of, is_regranted, Replied, Refused, AskPoint, Skipping, Trimming, Growing, SplittingGrown, GrowingExactly, SplittingExact, Committing, Merging, PurgingLazily, Returning, Decommitting, Forcing, Asks, Next, Ends, Reply, Whole, Joined, Kept, Abandoned, Part, Space, Span, Sound, mine, AskFacts, ask_at, done_at, need_chunks, told, Alone, Flies, Idle, KnowsAsk, Keeps, flights_of, left_ask, stages_ask, with_found, AfterDalloc, AfterRefusal, HoldsExtent, Rests, RefusalsStand, Cutting, Extending, Sparing, Backing, Joining, move}
 use Rattle.call_plan.proofs.Getting.{alone_found}
 use Rattle.call_plan.proofs.Putting.{found_at}
 use Rattle.call_plan.proofs.Rooms.{flown}
 use Rattle.call_plan.proofs.Standing.{wants-stand}
 use Rattle.call_plan.proofs.Steps.{steps-keep}
+use Rattle.space_model.specs.declared.Answer.TheVariants as answers
 
 -- an extent whose hook refused is put down whole
 whole_told : (c : ℕ) (s : Space) (span : Span) (b : Bool) → Alone (mine c s) span b → (whole_at s (find (is_flight_at c span) s.parts)).reply ≡ Whole
@@ -25,7 +26,7 @@ holds c t stage bound count span P next there is counted keeps flies =
 module _ (c : ℕ) (s t : Space) (asked : AskFacts) (reply : Reply) (found : Option ℕ) (sound : Sound s) where
   -- the ask of a point was refused
   abbrev refused_at : AskPoint → AskFacts
-  refused_at point = record asked { ask = ask_at point; answer = Refuses }
+  refused_at point = record asked { ask = ask_at point; answer = answers.Refused }
 
   -- so many extents are in flight after the reply to the turn that took the refusal in
   abbrev Flew : AskPoint → Reply → Type 0

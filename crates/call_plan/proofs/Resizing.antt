@@ -1,5 +1,5 @@
 -- What the turns of a call leave that resizes a large region where it is: what it knows where it goes on.
-use Rattle.call_plan.proofs.Words.{inl, inr, ◌≡◌, ◌≢◌, ℕ, ◌+◌, ◌-◌, ◌*◌, ◌<◌, ◌≤◌, ◌==◌, ◌&&◌, ◌++◌, Bool, true, false, not, cond, List, [], ◌∷◌, Option, None, Some, refl, sym, ◌∙◌, ap, subst, arith, nat_tests, cond_both, filter, find, list_any, eqb-true, both_true, find_passes, begins_at, begins_either, is_active, is_flight, taken_out, joined, Region, Space, Part, Span, Sound, Mine, mine, pages_at, same_span, end_of, Answer, Placed, Done, Refuses, Noted, Nothing, Alloc, Commit, Split, Merge, AnswersTo, Widening, Narrowing, Resize, own_span, behind, lacks, whole_chunks, back, spare, extend, narrowed, extended, spared, backed, widened, turn_replied, IsResize, Widens, Narrows, Alone, Idle, Flies, Keeps, in_flight, length, leb-true}
+use Rattle.call_plan.proofs.Words.{inl, inr, ◌≡◌, ◌≢◌, ℕ, ◌+◌, ◌-◌, ◌*◌, ◌<◌, ◌≤◌, ◌==◌, ◌&&◌, ◌++◌, Bool, true, false, not, cond, List, [], ◌∷◌, Option, None, Some, refl, sym, ◌∙◌, ap, subst, arith, nat_tests, cond_both, filter, find, list_any, eqb-true, both_true, find_passes, begins_at, begins_either, is_active, is_flight, taken_out, joined, Region, Space, Part, Span, Sound, Mine, mine, pages_at, same_span, end_of, Answer, Placed, Done, Noted, Nothing, Alloc, Commit, Split, Merge, AnswersTo, Widening, Narrowing, Resize, own_span, behind, lacks, whole_chunks, back, spare, extend, narrowed, extended, spared, backed, widened, turn_replied, IsResize, Widens, Narrows, Alone, Idle, Flies, Keeps, in_flight, length, leb-true}
 use Rattle.space_model.specs.Part.{is_unused}
 use Rattle.std.proofs.lemmas.List.Folds.{list_any-append}
 use Rattle.std.specs.Option.{option_map}
@@ -12,6 +12,7 @@ use Rattle.call_plan.proofs.Large.{LargeIs, own_is, resize_is}
 use Rattle.call_plan.proofs.Own.{flights_exchanged}
 use Rattle.call_plan.proofs.Getting.{Onto, alloc_onto, alone_found, begins_itself, commit_onto, cut_onto, kept_span, replaced_idle, span_itself, whole_onto}
 use Rattle.space_model.proofs.Moves.{itself}
+use Rattle.space_model.specs.declared.Answer.TheVariants as answers
 
 -- the client's large region is found at its address, and its extent passes what that passes
 pub has_large_is : (c : ℕ) (s : Space) (addr class : ℕ) (test : Part → Bool) → (is : LargeIs c s addr class) → test is.part ≡ true → has_large s c addr test ≡ true
@@ -143,7 +144,7 @@ join_up_onto c s resize span Done sound (is, more) alone kind =
       calm = alone.calm;
     } in
     rw (home, alone_found c s span true alone) idle
-join_up_onto c s resize span Refuses sound widens alone kind =
+join_up_onto c s resize span answers.Refused sound widens alone kind =
     whole_onto c s (widened resize) 2 0 span true alone (λ t e idle. (idle, widens.0.below, omega arith))
 join_up_onto c s resize span (Placed b zeroed first) sound widens alone kind = absurd (kind first b zeroed refl)
 
@@ -175,6 +176,6 @@ trim_onto c s resize Done sound flights offers (is, fewer) kind =
     } in
     subst (λ o. Onto c (narrowed resize) 2 0 (trimmed_at (record s { trims = without_client c s.trims }) c left resize.class o)) (sym home)
     ((omega arith, alone_flies (mine c t) high.span high.committed (λ _. Unit {0}) alone tt, tt), inl (omega arith))
-trim_onto c s resize Refuses sound flights offers narrows kind =
+trim_onto c s resize answers.Refused sound flights offers narrows kind =
     (record { flights = flights; calm = (offers, cut_over c s.trims) }, narrows.0.below, omega arith)
 trim_onto c s resize (Placed b zeroed first) sound flights offers narrows kind = absurd (kind first b zeroed refl)

@@ -1,11 +1,12 @@
 -- Whatever comes of what a call wants leads on.
-use Rattle.call_plan.proofs.Words.{rules, add-zero, append-nil, inr, filter, ◌≡◌, ℕ, ◌+◌, ◌-◌, ◌*◌, Bool, true, false, not, cond, List, [], ◌∷◌, Option, None, Some, refl, sym, ◌∙◌, ap, subst, arith, max, length, find, nat_tests, is_active, is_listed, is_flight, begins_at, moved_to, turned_parts, turned_in_order, turned_sum, nothing_sum, filter_nothing, sum_by, flight, Stepped, replaced, after_advance, after_set, setting_stands, after_reset, after_destroy, doom_at, step_of, after_cut, put_down-nobody, itself, Replied, Told, Starved, Split, Answer, Reply, Doomed, Rest, ToDirty, ToRetained, Setting, Space, Part, Span, Sound, mine, AskFacts, AnswersTo, Wish, Change, TurnPoint, Filling, Looking, Landing, Giving, Finding, Taking, Offering, Advancing, Changing, Making, Resetting, Destroying, Dooming, Publishing, Owning, Widening, Narrowing, AskPoint, Skipping, Trimming, Growing, SplittingGrown, GrowingExactly, SplittingExact, Committing, Merging, PurgingLazily, Returning, Decommitting, Forcing, Cutting, Extending, Sparing, Backing, Joining, Turns, Asks, Tells, Next, Go, ask_at, turn_replied, starved, is_marked, told, done_at, op_at, whole_chunks, skipped, trimmed, grown, needed, grant_split, committed, Idle, Alone, Gets, KnowsAsk, KnowsTurn, Heard, IsChange, is_of_arena, with_found, Keeps, stages_turn, stages_ask, stages_change, left, left_ask, flights_of, StepsKeep}
+use Rattle.call_plan.proofs.Words.{rules, add-zero, append-nil, inr, filter, ◌≡◌, ℕ, ◌+◌, ◌-◌, ◌*◌, Bool, true, false, not, cond, List, [], ◌∷◌, Option, None, Some, refl, sym, ◌∙◌, ap, subst, arith, max, length, find, nat_tests, is_active, is_listed, is_flight, begins_at, moved_to, turned_parts, turned_in_order, turned_sum, nothing_sum, filter_nothing, sum_by, flight, Stepped, replaced, after_advance, after_set, setting_stands, after_reset, after_destroy, doom_at, step_of, after_cut, put_down-nobody, itself, Replied, Told, Starved, Split, Answer, Reply, Doomed, Rest, Setting, Space, Part, Span, Sound, mine, AskFacts, AnswersTo, Wish, Change, TurnPoint, Filling, Looking, Landing, Giving, Finding, Taking, Offering, Advancing, Changing, Making, Resetting, Destroying, Dooming, Publishing, Owning, Widening, Narrowing, AskPoint, Skipping, Trimming, Growing, SplittingGrown, GrowingExactly, SplittingExact, Committing, Merging, PurgingLazily, Returning, Decommitting, Forcing, Cutting, Extending, Sparing, Backing, Joining, Turns, Asks, Tells, Next, Go, ask_at, turn_replied, starved, is_marked, told, done_at, op_at, whole_chunks, skipped, trimmed, grown, needed, grant_split, committed, Idle, Alone, Gets, KnowsAsk, KnowsTurn, Heard, IsChange, is_of_arena, with_found, Keeps, stages_turn, stages_ask, stages_change, left, left_ask, flights_of, StepsKeep}
 use Rattle.call_plan.proofs.Lists.{filter-fewer}
 use Rattle.call_plan.proofs.Own.{flight_found}
 use Rattle.call_plan.proofs.Getting.{Onto, kept_span, cut_onto, commit_onto, alloc_onto, look_onto, land_onto, commit_goes, grant_goes, trim_goes, gets_kept, replaced_idle, begins_itself}
 use Rattle.call_plan.proofs.Resizing.{extend_onto, back_up_onto, join_up_onto, narrow_onto, spare_onto, trim_onto, widen_onto}
 use Rattle.call_plan.proofs.Putting.{merge_onto, back_onto, put_onto}
 use Rattle.call_plan.proofs.Dropping.{lazy_onto, offer_onto, return_onto, decommit_onto, forced_onto, take_onto}
+use Rattle.space_model.specs.declared.Rest.TheVariants as rests
 
 -- ---- the turns of an arena as a whole
 
@@ -32,10 +33,10 @@ make_keeps : (c : ℕ) (s : Space) (index : ℕ) (setting : Setting) → Idle (m
 make_keeps c s index setting idle stands of = grind (arith, nat_tests)
 
 reset_keeps : (c : ℕ) (s : Space) (cached : ℕ) → Idle (mine c s) → Onto c (turn_replied (Resetting cached)) 2 0 (after_reset s c cached)
-reset_keeps c s cached idle = let still = moved_idle c s ToDirty (λ p. is_active p.state) idle in grind arith
+reset_keeps c s cached idle = let still = moved_idle c s rests.Dirty (λ p. is_active p.state) idle in grind arith
 
 destroy_keeps : (c : ℕ) (s : Space) (cached : ℕ) → Idle (mine c s) → Onto c (turn_replied (Destroying cached)) 1 0 (after_destroy s c cached)
-destroy_keeps c s cached idle = let still = moved_idle c s ToRetained (λ p. not (is_listed ToRetained p.state)) idle in grind (arith, itself c)
+destroy_keeps c s cached idle = let still = moved_idle c s rests.Retained (λ p. not (is_listed rests.Retained p.state)) idle in grind (arith, itself c)
 
 doom_keeps : (c : ℕ) (s : Space) (parts : List Part) → s.parts ≡ parts → Idle (mine c s) → (mine c s).dying ≡ true → Onto c (turn_replied Dooming) 0 (2 * length s.parts + 1) (doom_at s parts)
 doom_keeps c s [] e idle dying = record { flights = idle.flights; calm = idle.calm }

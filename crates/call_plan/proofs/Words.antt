@@ -70,4 +70,4 @@ pub use Rattle.call_plan.specs.Rooms.{flying, empties, needed_ask, needed_next, 
 pub use Rattle.call_plan.specs.Runs.{page_align, all_done, all_goes, gives, desk_moved, move_stage, are_large, resize_to, resize_at, begin_resize, begin_realloc, desk_resized, desk_realloced, desk_led, batch_goes, closed, moved, begin_flush, begin_free, begin_get, begin_malloc, begin_memalign, begin_publish, get, share, wish_for, begin, Moment, after, run, settle, step_next, begin_stage, small_hit, stage, begin_desk}
 unfoldable pub use Rattle.call_plan.specs.Runs.{is_alignment}
 pub use Rattle.call_plan.specs.Table.{own_span, lacks, behind, alloc_behind, back, spare, move, extend, got, narrowed, extended, spared, backed, widened, answered_span, decommitted, eased, forced, put_purged, returned, takes_left, turn_replied, done_at, is_marked, op_at, starved, step, told, want, commit, grant, grow, trim, skip_to, alloc_of, ask_at, chunks_for, whole_chunks, look_on, merged, onward, put_next, visited, took_over, need_chunks, skipped, trimmed, grown, needed, grant_split, committed, WantTurn, visit_gives}
-pub use Rattle.call_plan.specs.Words.{Realloc, Resize, Moving, Widening, Narrowing, Cutting, Extending, Sparing, Backing, Joining, Move, Stops, Leaves, IsAlignment, aligned_for, class_for, Malloc, Memalign, Free, Publish, Flush, Cache, Mine, Held, DeskFacts, most_regions, cached_in, BatchFacts, batch_of, freeing, going, caching, going_with, held_at, is_cacheable, Request, Item, Answered, Finished, Ok, NoSuchArena, TurnPoint, Filling, Looking, Landing, Giving, Finding, Offering, Point, Turns, Asks, Tells, Next, Go, InArena, NextBatch, NotLive, Ends, Nowhere, Stage, AskPoint, Skipping, Trimming, Growing, SplittingGrown, GrowingExactly, SplittingExact, Committing, Merging, PurgingLazily, Returning, Decommitting, Forcing, Alloc, Commit, Split, Answer, Placed, Refuses, Whole, Refuse, Bad, Grown, Space, Span, Why, hit, Visit, AfterFlight, Visiting, Taking, Dalloc, Decommit, PurgeLazy, Done, Noted, Kept, Abandoned, Rest, ToDirty, ToMuzzy, ToRetained, Part, Sound, mine, same_span, AnswersTo, Replied, Told, Starved, Batches, Owning, Reply, AskFacts, Wish, Cut, end_of, land_at, Took, Grow, Landed, Regions, align_at, fill_at, lowest_free, max_series, NoMemory, Merge, Purge, FreeForeign, Take, Refused, BadAnswer, NotHeld, Change, Visits, Changing, NoArena, Nothing, Owned, Joined, Op, Advancing, Making, Resetting, Destroying, Dooming, Publishing, pages_at, Doomed, Setting, Taken}
+pub use Rattle.call_plan.specs.Words.{Realloc, Resize, Moving, Widening, Narrowing, Cutting, Extending, Sparing, Backing, Joining, Move, Stops, Leaves, IsAlignment, aligned_for, class_for, Malloc, Memalign, Free, Publish, Flush, Cache, Mine, Held, DeskFacts, most_regions, cached_in, BatchFacts, batch_of, freeing, going, caching, going_with, held_at, is_cacheable, Request, Item, Answered, Finished, Ok, NoSuchArena, TurnPoint, Filling, Looking, Landing, Giving, Finding, Offering, Point, Turns, Asks, Tells, Next, Go, InArena, NextBatch, NotLive, Ends, Nowhere, Stage, AskPoint, Skipping, Trimming, Growing, SplittingGrown, GrowingExactly, SplittingExact, Committing, Merging, PurgingLazily, Returning, Decommitting, Forcing, Alloc, Commit, Split, Answer, Placed, Whole, Bad, Grown, Space, Span, Why, hit, Visit, AfterFlight, Visiting, Taking, Dalloc, Decommit, PurgeLazy, Done, Noted, Kept, Abandoned, Rest, Part, Sound, mine, same_span, AnswersTo, Replied, Told, Starved, Batches, Owning, Reply, AskFacts, Wish, Cut, end_of, land_at, Took, Grow, Landed, Regions, align_at, fill_at, lowest_free, max_series, NoMemory, Merge, Purge, FreeForeign, Take, Refused, BadAnswer, NotHeld, Change, Visits, Changing, NoArena, Nothing, Owned, Joined, Op, Advancing, Making, Resetting, Destroying, Dooming, Publishing, pages_at, Doomed, Setting, Taken}

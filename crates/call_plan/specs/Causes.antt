@@ -2,12 +2,14 @@
 use Rattle.std.specs.Prelude.{◌≡◌, ℕ, ◌-◌, ◌<◌, ◌≤◌, ◌^◌, ◌⊎◌, max, replicate, Bool, true, false, List, [], ◌∷◌, ◌++◌, fold, Contains, Option, None, Some, option_map}
 use Rattle.space_model.specs.Step.{why_not}
 use Rattle.call_plan.specs.Words.{Request, Malloc, Memalign, Free, FreeForeign, Publish, Take, PurgeAll, Decay, Time, Reset, Destroy, Create, Bind, HookBox, GrowLimit, Realloc, MallocIn, NewCache, Item, Replied, Told, Starved, Given, Region, Finished, Arena, Limits, Slot, Answered, Ok, Refused, BadAnswer, TooLarge, BadAlign, NotHeld, NoSuchArena, Busy, NoMemory, ArenasFull, Automatic, NoCache, CachesFull, Wish, Next, Go, Ends}
-use Rattle.call_plan.specs.Words.{Ask, Alloc, Commit, Split, Placed, Refuses, NoArena, Nothing, Noted, Took, Grow, Cut, Whole, Bad, Grown, Landed, Regions, LimitsAre, Owned, InUse, Space, Span, Why, Sound, AskFacts, Held, DeskFacts, IsAlignment, aligned_for, class_for, free_slot, held_at, hit}
+use Rattle.call_plan.specs.Words.{Ask, Alloc, Commit, Split, Placed, NoArena, Nothing, Noted, Took, Grow, Cut, Whole, Bad, Grown, Landed, Regions, LimitsAre, Owned, Space, Span, Why, Sound, AskFacts, Held, DeskFacts, IsAlignment, aligned_for, class_for, free_slot, held_at, hit}
 use Rattle.call_plan.specs.Clients.{has_cache}
 use Rattle.call_plan.specs.Desks.{meant, ready, slot_of}
 use Rattle.call_plan.specs.Table.{alloc_of, want, whole_chunks}
 use Rattle.call_plan.specs.Runs.{Moment, after, begin, page_align, run, small_hit, wish_for}
 use Rattle.call_plan.specs.Laws.{Moves}
+use Rattle.space_model.specs.declared.Answer.TheVariants as answers
+use Rattle.space_model.specs.declared.Reply.TheVariants as replies
 
 -- ---- what came
 
@@ -92,7 +94,7 @@ pub record RefusedCause (request : Request) (items : List Item) (asked : AskFact
   pub earlier : List Item
   pub later : List Item
   pub told : items ≡ earlier ++ Told asked ∷ later
-  pub refused : asked.answer ≡ Refuses
+  pub refused : asked.answer ≡ answers.Refused
   pub needed : IsNeeded wish earlier asked.ask
 
 -- The last ask of this call was an alloc that placed the range, and the turn that took its answer in replied that this speaks
@@ -234,7 +236,7 @@ CauseIn desk request items TooLarge = TooLargeCause request
 CauseIn desk request items BadAlign = BadAlignCause request
 CauseIn desk request items (NotHeld addr) = NotHeldCause desk request items addr
 CauseIn desk request items (NoSuchArena index) = (Names request index × (32 ≤ index)) ⊎ Contains items (Replied NoArena)
-CauseIn desk request items (Busy others flights threads) = Empties request × Contains items (Replied (InUse others flights threads))
+CauseIn desk request items (Busy others flights threads) = Empties request × Contains items (Replied (replies.Busy others flights threads))
 CauseIn desk request items NoMemory = Contains items Starved
 CauseIn desk request items ArenasFull = FullCause request items
 CauseIn desk request items Automatic = AutomaticCause request

@@ -10,9 +10,10 @@ use Rattle.space_model.specs.Part.{is_listed, is_backed, rest_of}
 use Rattle.space_model.specs.Purging.{is_purgeable}
 use Rattle.space_model.specs.Settings.{setting_stands}
 use Rattle.space_model.specs.Step.{may_merge, rises_from}
-use Rattle.call_plan.specs.Words.{ToDirty, ToRetained, Setting, MakeLive, Part, Span, Mine, AskFacts, pages_at, same_span, end_of, most_regions, AnswersTo}
+use Rattle.call_plan.specs.Words.{Setting, MakeLive, Part, Span, Mine, AskFacts, pages_at, same_span, end_of, most_regions, AnswersTo}
 use Rattle.call_plan.specs.Words.{Wish, Resize, Visit, AfterFlight, Batches, Visiting, Moving, Change, Visits, TurnPoint, Filling, Looking, Landing, Giving, Finding, Taking, Offering, Advancing, Changing, Making, Resetting, Destroying, Dooming, Publishing, Owning, Widening, Narrowing, AskPoint, Skipping, Trimming, Growing, SplittingGrown, GrowingExactly, SplittingExact, Committing, Merging, PurgingLazily, Returning, Decommitting, Forcing, Cutting, Extending, Sparing, Backing, Joining, Point, Turns, Asks, Tells}
 use Rattle.call_plan.specs.Table.{ask_at, behind, chunks_for, lacks}
+use Rattle.space_model.specs.declared.Rest.TheVariants as rests
 
 -- what a call can wish for: regions of a class in an extent of its pages, at an alignment that is a power of two
 pub record IsWish (wish : Wish) : Type 0 where
@@ -182,10 +183,10 @@ KnowsAsk m (GrowingExactly wish) = Gets m wish × Idle m
 KnowsAsk m (SplittingExact wish span is_committed) = Gets m wish × Alone m span is_committed × (wish.pages < span.pages)
 KnowsAsk m (Committing wish span) = Gets m wish × Alone m span false × (span.pages ≡ wish.pages)
 KnowsAsk m (Merging low high own_low fresh later) = HasPair m low high fresh × IsThen later
-KnowsAsk m (PurgingLazily span later) = Flies m span (λ p. rest_of p.state ≡ ToDirty) × IsThen later
+KnowsAsk m (PurgingLazily span later) = Flies m span (λ p. rest_of p.state ≡ rests.Dirty) × IsThen later
 KnowsAsk m (Returning span later) = HasOffered m span × IsThen later
-KnowsAsk m (Decommitting span later) = Flies m span (λ p. (p.committed ≡ true) × (rest_of p.state ≡ ToRetained)) × IsThen later
-KnowsAsk m (Forcing span later) = Flies m span (λ p. rest_of p.state ≡ ToRetained) × IsThen later
+KnowsAsk m (Decommitting span later) = Flies m span (λ p. (p.committed ≡ true) × (rest_of p.state ≡ rests.Retained)) × IsThen later
+KnowsAsk m (Forcing span later) = Flies m span (λ p. rest_of p.state ≡ rests.Retained) × IsThen later
 KnowsAsk m (Cutting resize) = (m.flights ≡ []) × (m.offers ≡ []) × (m.trims ≡ true) × Narrows m resize
 KnowsAsk m (Extending resize) = Idle m × Widens m resize
 KnowsAsk m (Sparing resize span is_committed) =

@@ -4,11 +4,12 @@ use Rattle.space_model.specs.declared.Op.TheVariants.{GrowDone, OfferDone}
 use Rattle.space_model.specs.Step.{step_of, op_stands}
 use Rattle.space_model.specs.Settings.{is_decay_time}
 use Rattle.space_model.specs.Purging.{is_purgeable}
-use Rattle.call_plan.specs.Words.{Request, Time, Create, HookBox, GrowLimit as SetGrowLimit, Item, Replied, Told, Starved, Op, Space, Sound, Mine, mine, AskFacts, Held, DeskFacts, max_series, AnswersTo, cached_of, held_at, Rest, ToMuzzy}
+use Rattle.call_plan.specs.Words.{Request, Time, Create, HookBox, GrowLimit as SetGrowLimit, Item, Replied, Told, Starved, Op, Space, Sound, Mine, mine, AskFacts, Held, DeskFacts, max_series, AnswersTo, cached_of, held_at, Rest}
 use Rattle.call_plan.specs.Words.{Visit, AfterFlight, Batches, Visiting, Moving, Change, Stops, Visits, Leaves, TurnPoint, Filling, Looking, Landing, Giving, Finding, Taking, Offering, Advancing, Changing, Making, Resetting, Destroying, Dooming, Widening, Narrowing, AskPoint, Skipping, Trimming, Growing, SplittingGrown, GrowingExactly, SplittingExact, Committing, Merging, PurgingLazily, Returning, Decommitting, Forcing, Cutting, Extending, Sparing, Backing, Joining, Point, Turns, Asks, Tells, Next, Go, InArena, NextBatch, Move, Ends, Nowhere, Stage}
 use Rattle.call_plan.specs.Table.{Want, WantTurn, WantAsk, want, step, is_marked}
 use Rattle.call_plan.specs.Knows.{Idle, Knows, is_held_of, is_served}
 use Rattle.call_plan.specs.Runs.{begin_stage, desk_led, settle}
+use Rattle.space_model.specs.declared.Rest.TheVariants as rests
 
 -- ---- what may be fed
 
@@ -37,7 +38,7 @@ Moves c s want item t = ⊥
 -- how many times it still learns how much there is to do: how many extents a giving back emptied, or a visit has, or whether a
 -- region is resized where it is
 abbrev pub stages_list : Rest → Option ℕ → ℕ
-stages_list ToMuzzy (Some dirty) = 2
+stages_list rests.Muzzy (Some dirty) = 2
 stages_list rest other = 0
 
 -- those of the list that is visited after the one of a visit, if one is

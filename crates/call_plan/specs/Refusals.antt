@@ -2,10 +2,11 @@
 use Rattle.std.specs.Prelude.{◌≡◌, ℕ, ◌+◌, ◌-◌, Bool, true, false, Option, None, Some}
 use Rattle.space_model.specs.Step.{next_flight}
 use Rattle.space_model.specs.Purging.{is_regranted}
-use Rattle.call_plan.specs.Words.{AfterFlight, Replied, Refused, AskPoint, Skipping, Trimming, Growing, SplittingGrown, GrowingExactly, SplittingExact, Committing, Merging, PurgingLazily, Returning, Decommitting, Forcing, Cutting, Extending, Sparing, Backing, Joining, Offering, Turns, Asks, Next, Go, Ends, Refuses, Reply, Space, Span, Sound, mine, AskFacts}
+use Rattle.call_plan.specs.Words.{AfterFlight, Replied, Refused, AskPoint, Skipping, Trimming, Growing, SplittingGrown, GrowingExactly, SplittingExact, Committing, Merging, PurgingLazily, Returning, Decommitting, Forcing, Cutting, Extending, Sparing, Backing, Joining, Offering, Turns, Asks, Next, Go, Ends, Reply, Space, Span, Sound, mine, AskFacts}
 use Rattle.call_plan.specs.Table.{look_on, move, need_chunks, put_next, put_purged, step, want}
 use Rattle.call_plan.specs.Knows.{Flies, Idle, Knows}
 use Rattle.call_plan.specs.Laws.{Moves, flights_of}
+use Rattle.space_model.specs.declared.Answer.TheVariants as answers
 
 -- the call goes on there, and nothing is in flight or offered
 abbrev pub Rests : ℕ → Space → Next → Next → Type 0
@@ -50,4 +51,4 @@ AfterRefusal c s t found (Joining resize span) asked next = Rests c t next (move
 -- what stands once a refusal of an ask was taken in is what the table of refusals says
 abbrev pub RefusalsStand : Type 0
 RefusalsStand = (c : ℕ) (s t : Space) (point : AskPoint) (asked : AskFacts) (reply : Reply) → Sound s → Knows (mine c s) (Asks point (Some asked))
-    → asked.answer ≡ Refuses → (moves : Moves c s (want (Asks point (Some asked))) (Replied reply) t) → AfterRefusal c s t moves.0 point asked (step (Asks point (Some asked)) (Replied reply))
+    → asked.answer ≡ answers.Refused → (moves : Moves c s (want (Asks point (Some asked))) (Replied reply) t) → AfterRefusal c s t moves.0 point asked (step (Asks point (Some asked)) (Replied reply))

@@ -5,9 +5,10 @@ use Rattle.std.specs.Ordering.{int_eq}
 use Rattle.call_plan.specs.Clients.{not_holding, with_new_cache}
 use Rattle.call_plan.specs.Words.{Request, Malloc, Memalign, Free, FreeForeign, Publish, Take, Flush, Cache, PurgeAll, Decay, Time, Reset, Destroy, Create, Bind, HookBox, GrowLimit, Realloc, MallocIn, FreeIn, NewCache, FlushCache, EndCache, Slot, NoCache, CachesFull, free_slot, Item, Region, Finished, Ok, TooLarge, BadAlign, NotHeld, NoSuchArena as NoArena, Automatic}
 use Rattle.call_plan.specs.Words.{Wish, Resize, Visit, Change, Stops, Visits, Leaves, TurnPoint, Filling, Looking, Giving, Taking, Advancing, Changing, Making, Resetting, Destroying, Publishing, Owning, Widening, Narrowing, Turns, Next, Go, InArena, NextBatch, Move, NotLive, Ends, Nowhere, Stage}
-use Rattle.call_plan.specs.Words.{Rest, ToDirty, ToMuzzy, ToRetained, Setting, DirtyMs, MuzzyMs, SetBox, SetBound, SetLimit, MakeLive, Held, DeskFacts, aligned_for, class_for, pages_at, slots_at, most_regions, BatchFacts, batch_of, cached_of, freeing, gaining, going, going_with, held_at, hit, hitting, reclassing, resizing}
+use Rattle.call_plan.specs.Words.{Rest, Setting, DirtyMs, MuzzyMs, SetBox, SetBound, SetLimit, MakeLive, Held, DeskFacts, aligned_for, class_for, pages_at, slots_at, most_regions, BatchFacts, batch_of, cached_of, freeing, gaining, going, going_with, held_at, hit, hitting, reclassing, resizing}
 use Rattle.call_plan.specs.Table.{step}
 use Rattle.call_plan.specs.Desks.{desk_closed, desk_fed, flushes, meant, ready}
+use Rattle.space_model.specs.declared.Rest.TheVariants as rests
 
 -- ---- where a request begins
 
@@ -107,9 +108,9 @@ begin_cache false desk = begin_flush desk
 
 -- the setting of a decay time
 abbrev pub decay_setting : Rest → ℤ → ℕ → Setting
-decay_setting ToDirty ms now = DirtyMs ms now
-decay_setting ToMuzzy ms now = MuzzyMs ms now
-decay_setting ToRetained ms now = MuzzyMs ms now
+decay_setting rests.Dirty ms now = DirtyMs ms now
+decay_setting rests.Muzzy ms now = MuzzyMs ms now
+decay_setting rests.Retained ms now = MuzzyMs ms now
 
 -- the extents of the list, all of them
 abbrev pub whole_visit : Rest → Visit
@@ -121,7 +122,7 @@ after_time rest ms = if int_eq ms (negsuc 0) then Stops else Visits (whole_visit
 
 -- the muzzy extents and then the dirty ones, all of them
 abbrev pub purge_visit : Visit
-purge_visit = record { rest = ToMuzzy; keep = 0; other = Some 0; told = false }
+purge_visit = record { rest = rests.Muzzy; keep = 0; other = Some 0; told = false }
 
 -- another arena is bound first, and then the client leaves its own
 abbrev pub begin_bind : ℕ → ℕ → Stage

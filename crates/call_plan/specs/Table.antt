@@ -5,7 +5,9 @@ use Rattle.space_model.specs.declared.Op.TheVariants.{Look, CutDone, GrowDone, C
 use Rattle.hook_api.specs.Asked.{heard_in}
 use Rattle.call_plan.specs.Words.{Item, Replied, Told, Starved, Given, Region, Finished, Arena, Limits, Ok, Refused, BadAnswer, NotHeld, Busy, NoMemory, ArenasFull, end_of, max_series, Rest}
 use Rattle.call_plan.specs.Words.{Wish, Resize, Visit, AfterFlight, Batches, Visiting, Moving, Change, Stops, Visits, Leaves, TurnPoint, Filling, Looking, Landing, Giving, Finding, Taking, Offering, Advancing, Changing, Making, Resetting, Destroying, Dooming, Publishing, Owning, Widening, Narrowing, AskPoint, Skipping, Trimming, Growing, SplittingGrown, GrowingExactly, SplittingExact, Committing, Merging, PurgingLazily, Returning, Decommitting, Forcing, Cutting, Extending, Sparing, Backing, Joining, Point, Turns, Asks, Tells, Next, Go, InArena, NextBatch, Move, NotLive, Ends, Nowhere}
-use Rattle.call_plan.specs.Words.{Ask, Alloc, Dalloc, Commit, Decommit, PurgeLazy, PurgeForced, Split, Merge, Answer, Placed, Op, Reply, NoArena, Nothing, Noted, Took, Grow, Cut, Whole, Refuse, Bad, Grown, Landed, NextFlight, Beside, Purge, Joined, Regions, LimitsAre, Taken, Lazy, Kept, Abandoned, Decommitted, Doomed, Owned, InUse, ToDirty, ToMuzzy, Setting, Unbind, Span, AskFacts, pages_at}
+use Rattle.call_plan.specs.Words.{Ask, Alloc, Dalloc, Commit, Decommit, PurgeLazy, PurgeForced, Split, Merge, Answer, Placed, Op, Reply, NoArena, Nothing, Noted, Took, Grow, Cut, Whole, Bad, Grown, Landed, NextFlight, Beside, Purge, Joined, Regions, LimitsAre, Taken, Lazy, Kept, Abandoned, Decommitted, Doomed, Owned, Setting, Unbind, Span, AskFacts, pages_at}
+use Rattle.space_model.specs.declared.Reply.TheVariants as replies
+use Rattle.space_model.specs.declared.Rest.TheVariants as rests
 
 -- ---- what is wanted at a point
 
@@ -170,7 +172,7 @@ answered_span pages answer = record { first = 0; pages = pages }
 
 -- the dirty extents of which so many pages may stay
 abbrev pub dirty_visit : ℕ → Option ℕ → Bool → Visit
-dirty_visit keep other told = record { rest = ToDirty; keep = keep; other = other; told = told }
+dirty_visit keep other told = record { rest = rests.Dirty; keep = keep; other = other; told = told }
 
 -- the first extent of a visit is taken
 abbrev pub visit_all : Visit → Next
@@ -179,12 +181,12 @@ visit_all visit = Go (Turns (Taking visit None))
 -- what a visit gives in the end: that it is done, or how many pages might stay
 abbrev pub visit_gives : Bool → Rest → ℕ → Option ℕ → Given
 visit_gives false rest keep other = Finished
-visit_gives true ToMuzzy keep other = Limits other (Some keep)
+visit_gives true rests.Muzzy keep other = Limits other (Some keep)
 visit_gives true rest keep other = Limits (Some keep) other
 
 -- what follows a visit of a list: one of the dirty extents after that of the muzzy ones, where these are visited too, or the answer
 abbrev pub visited_list : Rest → Option ℕ → ℕ → Bool → Next
-visited_list ToMuzzy (Some dirty) keep told = visit_all (dirty_visit dirty (Some keep) told)
+visited_list rests.Muzzy (Some dirty) keep told = visit_all (dirty_visit dirty (Some keep) told)
 visited_list rest other keep told = Ends (Ok (visit_gives told rest keep other))
 
 -- what follows a visit
@@ -234,7 +236,7 @@ takes_left (Some left) listed = left - 1
 abbrev pub limited : Option ℕ → Option ℕ → Next
 limited None None = Ends (Ok (Limits None None))
 limited (Some dirty) None = visit_all (dirty_visit dirty None true)
-limited dirty (Some muzzy) = visit_all (record { rest = ToMuzzy; keep = muzzy; other = dirty; told = true })
+limited dirty (Some muzzy) = visit_all (record { rest = rests.Muzzy; keep = muzzy; other = dirty; told = true })
 
 -- ---- settings
 
@@ -282,11 +284,11 @@ turn_replied (Changing setting change) Noted = setting_changed change
 turn_replied (Changing setting change) NoArena = NotLive
 turn_replied (Making index setting) Noted = Ends (Ok (Arena index))
 turn_replied (Making index setting) Nothing = make_next index setting
-turn_replied (Resetting cached) (InUse held flights threads) = Ends (Busy held flights threads)
+turn_replied (Resetting cached) (replies.Busy held flights threads) = Ends (Busy held flights threads)
 turn_replied (Resetting cached) Noted = Ends (Ok Finished)
 turn_replied (Resetting cached) (Purge lazy) = visit_all (dirty_visit 0 None false)
 turn_replied (Resetting cached) NoArena = NotLive
-turn_replied (Destroying cached) (InUse held flights threads) = Ends (Busy held flights threads)
+turn_replied (Destroying cached) (replies.Busy held flights threads) = Ends (Busy held flights threads)
 turn_replied (Destroying cached) Noted = Go (Turns Dooming)
 turn_replied (Destroying cached) NoArena = NotLive
 turn_replied Dooming (Doomed span is_committed) = Go (Tells span is_committed)
@@ -315,14 +317,14 @@ trimmed wish is_committed reply = Nowhere
 
 -- after the alloc of more chunks than are needed
 abbrev pub grown : Wish → ℕ → Answer → Reply → Next
-grown wish chunks answer Refuse = need_chunks wish
+grown wish chunks answer replies.Refused = need_chunks wish
 grown wish chunks answer (Bad why) = Ends (BadAnswer (answered_span (chunks * 512) answer) why)
 grown wish chunks answer (Grown span is_committed) = Go (Asks (SplittingGrown wish span is_committed) None)
 grown wish chunks answer reply = Nowhere
 
 -- after the alloc of as many chunks as are needed
 abbrev pub needed : Wish → AskFacts → Reply → Next
-needed wish asked Refuse = Ends (Refused asked)
+needed wish asked replies.Refused = Ends (Refused asked)
 needed wish asked (Bad why) = Ends (BadAnswer (answered_span (whole_chunks wish.pages) asked.answer) why)
 needed wish asked (Grown span is_committed) = grant wish span is_committed
 needed wish asked reply = Nowhere
@@ -376,7 +378,7 @@ narrowed resize reply = Nowhere
 
 -- after the alloc of the chunks that it lacks
 abbrev pub extended : Resize → Reply → Next
-extended resize Refuse = move resize
+extended resize replies.Refused = move resize
 extended resize (Bad why) = move resize
 extended resize (Grown span is_committed) = extend resize span is_committed
 extended resize reply = Nowhere

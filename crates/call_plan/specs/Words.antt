@@ -21,12 +21,11 @@ pub use Rattle.call_plan.specs.Stages.{Point, Turns, Asks, Tells, Next, Go, InAr
 pub use Rattle.space_model.specs.declared.Ask.{Ask}
 pub use Rattle.space_model.specs.declared.Ask.TheVariants.{Alloc, Dalloc, Commit, Decommit, PurgeLazy, PurgeForced, Split, Merge}
 pub use Rattle.space_model.specs.declared.Answer.{Answer}
-pub use Rattle.space_model.specs.declared.Answer.TheVariants.{Placed, Done, Refused as Refuses}
+pub use Rattle.space_model.specs.declared.Answer.TheVariants.{Placed, Done}
 pub use Rattle.space_model.specs.declared.Op.{Op}
 pub use Rattle.space_model.specs.declared.Reply.{Reply}
-pub use Rattle.space_model.specs.declared.Reply.TheVariants.{NoArena, Nothing, Noted, Took, Grow, Cut, Whole, Refused as Refuse, Bad, Grown, Landed, Next as NextFlight, Beside, Purge, Joined, Regions, Limits as LimitsAre, Taken, Lazy, Kept, Abandoned, Decommitted, Doomed, Owned, Busy as InUse}
+pub use Rattle.space_model.specs.declared.Reply.TheVariants.{NoArena, Nothing, Noted, Took, Grow, Cut, Whole, Bad, Grown, Landed, Next as NextFlight, Beside, Purge, Joined, Regions, Limits as LimitsAre, Taken, Lazy, Kept, Abandoned, Decommitted, Doomed, Owned}
 pub use Rattle.space_model.specs.declared.Rest.{Rest}
-pub use Rattle.space_model.specs.declared.Rest.TheVariants.{Dirty as ToDirty, Muzzy as ToMuzzy, Retained as ToRetained}
 pub use Rattle.space_model.specs.declared.Setting.{Setting}
 pub use Rattle.space_model.specs.declared.Setting.TheVariants.{Unbind, DirtyMs, MuzzyMs, HookBox as SetBox, Bind as SetBound, GrowLimit as SetLimit, Live as MakeLive}
 pub use Rattle.space_model.specs.declared.Space.{Space}

@@ -1,7 +1,8 @@
 -- No chunk comes to have two owners.
-use Rattle.heap_core.proofs.Words.{◌≡◌, ◌≢◌, ◌⊎◌, inl, inr, ℕ, ◌+◌, ◌*◌, ◌/◌, ◌%◌, ◌<◌, ◌≤◌, ◌==◌, ◌&&◌, ◌||◌, Bool, true, false, not, cond, List, [], ◌∷◌, Option, None, Some, find, max, length, get_or, refl, sym, ◌∙◌, ap, subst, arith, All, suc, zero, ◌-◌, slice_set, option_map, All-head, All-tail, sum_by-cons, list_any, range_with_len, ltb-true, nat_tests, get_or-set_other, get_or-set_same, GrowDone, OfferDone, absent_space, holders, IsPlaced, chunk_span, chunks_of, has_page, meets, OffSpace, Unaligned, Meets, after_offer, keep_offer, without_offer, after_grow, grow_unless, is_in_space, is_owned, op_stands, step_of, granted_by, is_in_dalloc, ones, op_keeps, Ask, Alloc, Dalloc, Answer, Placed, Refuses, Op, Reply, Grown, Kept, Space, Part, Span, Sound, end_of, Apart, met_by_alloc, met_by_dalloc, met_in, others_of, owns_chunk, with_chunk_found, space_at}
+use Rattle.heap_core.proofs.Words.{◌≡◌, ◌≢◌, ◌⊎◌, inl, inr, ℕ, ◌+◌, ◌*◌, ◌/◌, ◌%◌, ◌<◌, ◌≤◌, ◌==◌, ◌&&◌, ◌||◌, Bool, true, false, not, cond, List, [], ◌∷◌, Option, None, Some, find, max, length, get_or, refl, sym, ◌∙◌, ap, subst, arith, All, suc, zero, ◌-◌, slice_set, option_map, All-head, All-tail, sum_by-cons, list_any, range_with_len, ltb-true, nat_tests, get_or-set_other, get_or-set_same, GrowDone, OfferDone, absent_space, holders, IsPlaced, chunk_span, chunks_of, has_page, meets, OffSpace, Unaligned, Meets, after_offer, keep_offer, without_offer, after_grow, grow_unless, is_in_space, is_owned, op_stands, step_of, granted_by, is_in_dalloc, ones, op_keeps, Ask, Alloc, Dalloc, Answer, Placed, Op, Reply, Grown, Kept, Space, Part, Span, Sound, end_of, Apart, met_by_alloc, met_by_dalloc, met_in, others_of, owns_chunk, with_chunk_found, space_at}
 use Rattle.std.proofs.Common.{ltb as nat_lt}
 use Rattle.sits.proofs.Indexes.{at_or_else}
+use Rattle.space_model.specs.declared.Answer.TheVariants as answers
 
 -- ---- tests over lists
 
@@ -131,7 +132,7 @@ alloc_meets spaces s c ask answer span b page chunk told in_span in_chunk = absu
 -- what a hook refused to take back is met by no other arena
 dalloc_meets : (others : List Space) (s : Space) (c : ℕ) (ask : Ask) (answer : Answer) (page chunk : ℕ) →
     (after_offer s c (met_by_dalloc others ask answer) ask answer).reply ≡ Kept → is_in_dalloc page ask ≡ true → has_page page (chunk_span chunk) ≡ true → list_any (owns_chunk chunk) others ≡ false
-dalloc_meets others s c (Dalloc span committed) Refuses page chunk told in_span in_chunk =
+dalloc_meets others s c (Dalloc span committed) answers.Refused page chunk told in_span in_chunk =
     elim (met_in others span) as (λ o. met_in others span ≡ o → (keep_offer (record s { offers = without_offer c span committed s.offers }) c o span committed).reply ≡ Kept → list_any (owns_chunk chunk) others ≡ false) [
       | Some k ↦ λ e h. absurd (cc)
       | None ↦ λ e h. none_met (λ k. list_any (owns_chunk k) others) span page chunk e in_span in_chunk

@@ -36,7 +36,7 @@ pub use Rattle.heap_core.specs.Owing.{IsHeap, asks_at, asks_next, owing}
 pub use Rattle.heap_core.specs.Seats.{answer_of, asked_for, first_seat, heard_by, holder_of, seat_at}
 pub use Rattle.heap_core.specs.Sitting.{AimsSit, AsksSit, Comes, HasRegions, HoldersPublish, IsSeated, OpeningSits, OthersSit, SeatSound, Sits, SitsAt, StartsSit, StarvesSit, TurnsSit}
 pub use Rattle.heap_core.specs.Stepping.{HolderIs, IsMarked, MadeTurn, Needs, StarvesAt, StarvesNext, TakesAt, TurnFacts, item_of, replied_by, with_ask}
-pub use Rattle.heap_core.specs.Words.{Alloc, Answer, Answered, AnswersTo, Ask, AskFacts, AskPoint, Asks, CallFacts, Change, Dalloc, DeskFacts, Destroying, Ends, Filling, Flush, Giving, Go, GrowDone, HasRoomToHold, Held, Item, Journal, Landing, Looking, Mine, Need, Next, NoMemory, OfferDone, Op, InArena, Placed, Point, Publishing, Refuses, Replied, Reply, Request, Resetting, Setting, Shelf, Skipping, Space, Span, Stage, Starved, Tells, AfterFlight, Told, Turn, TurnPoint, Turns, Wish, absent_space, all_rooms, chunk_span, chunks_of, counts_of, entry_of, first_space, has_page, held_at, is_in_space, is_live, lent, meets, mine, moment_at, moment_of, named_call, opens, replay, room_of, stands}
+pub use Rattle.heap_core.specs.Words.{Alloc, Answer, Answered, AnswersTo, Ask, AskFacts, AskPoint, Asks, CallFacts, Change, Dalloc, DeskFacts, Destroying, Ends, Filling, Flush, Giving, Go, GrowDone, HasRoomToHold, Held, Item, Journal, Landing, Looking, Mine, Need, Next, NoMemory, OfferDone, Op, InArena, Placed, Point, Publishing, Replied, Reply, Request, Resetting, Setting, Shelf, Skipping, Space, Span, Stage, Starved, Tells, AfterFlight, Told, Turn, TurnPoint, Turns, Wish, absent_space, all_rooms, chunk_span, chunks_of, counts_of, entry_of, first_space, has_page, held_at, is_in_space, is_live, lent, meets, mine, moment_at, moment_of, named_call, opens, replay, room_of, stands}
 pub use Rattle.heap_core.specs.declared.heaps.Did.TheVariants.{Turn as DidTurn}
 pub use Rattle.hook_api.specs.Journals.{IsByIndex}
 pub use Rattle.recorded_arena.specs.Records.{IsReplayed, Record, opening_record, opening_space, record_after}

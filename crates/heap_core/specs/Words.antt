@@ -9,7 +9,7 @@ pub use Rattle.call_plan.specs.Needs.{Goes, NeedIs}
 pub use Rattle.call_plan.specs.Reads.{aimed, ended_by, heard_next, taken_next}
 pub use Rattle.call_plan.specs.Runs.{Moment, after, begin}
 pub use Rattle.call_plan.specs.Table.{Want, WantAsk, WantTurn, is_marked, op_at, step, want}
-pub use Rattle.call_plan.specs.Words.{Alloc, Answer, AnswersTo, Ask, AskFacts, Asks, Dalloc, DeskFacts, Ends, Go, Held, Item, Mine, Next, Op, InArena, Placed, Point, Refuses, Replied, Reply, Setting, Space, Span, Stage, Starved, Tells, Told, Turns, held_at, mine}
+pub use Rattle.call_plan.specs.Words.{Alloc, Answer, AnswersTo, Ask, AskFacts, Asks, Dalloc, DeskFacts, Ends, Go, Held, Item, Mine, Next, Op, InArena, Placed, Point, Replied, Reply, Setting, Space, Span, Stage, Starved, Tells, Told, Turns, held_at, mine}
 pub use Rattle.call_plan.specs.declared.needs.Answered.{Answered}
 pub use Rattle.call_plan.specs.declared.needs.Answered.TheVariants.{NoMemory}
 pub use Rattle.call_plan.specs.declared.needs.Need.{Need}

@@ -32,7 +32,7 @@ pub use Rattle.space_model.specs.Sound.{Sound, IsQuiet}
 pub use Rattle.space_model.specs.Span.{IsPlaced, chunk_span, chunks_of, end_of, has_page, meets}
 pub use Rattle.space_model.specs.Step.{after_grow, grow_unless, is_in_space, is_owned, op_stands, step_of, space_after, reply_to, stands, is_live, stays}
 pub use Rattle.space_model.specs.declared.asks.Answer.{Answer}
-pub use Rattle.space_model.specs.declared.asks.Answer.TheVariants.{Refused as Refuses, Placed}
+pub use Rattle.space_model.specs.declared.asks.Answer.TheVariants.{Placed}
 pub use Rattle.space_model.specs.declared.asks.Ask.{Ask}
 pub use Rattle.space_model.specs.declared.asks.Ask.TheVariants.{Alloc, Dalloc}
 pub use Rattle.space_model.specs.declared.entries.Entry.{Entry}

@@ -8,7 +8,6 @@ use Rattle.size_classes.specs.Classes.{size_at}
 use Rattle.size_classes.proofs.Table.{size_bounds}
 use Rattle.space_model.specs.declared.Part.{Part}
 use Rattle.space_model.specs.declared.Region.{Region}
-use Rattle.space_model.specs.declared.Rest.TheVariants.{Dirty as ToDirty, Muzzy as ToMuzzy, Retained as ToRetained}
 use Rattle.space_model.specs.declared.Space.{Space}
 use Rattle.space_model.specs.declared.State.{State}
 use Rattle.space_model.specs.Counts.{bytes_of, bytes_where, counts_of, is_mapped, region_bytes_where, regions_by_class, slabs_by_class}
@@ -18,6 +17,7 @@ use Rattle.space_model.specs.Sound.{Sound}
 use Rattle.space_model.specs.Span.{IsPlaced}
 use Rattle.space_model.proofs.Sums.{bytes_le, pages_fit_space, region_bytes_fits}
 use Rattle.heap_stats.specs.Stats.{AreSmall}
+use Rattle.space_model.specs.declared.Rest.TheVariants as rests
 
 -- a list has no more members than the sum of what each has, where each has something
 few : {A : Type 0} (f : A → ℕ) (xs : List A) → All (λ x. 1 ≤ f x) xs → length xs ≤ sum_by f xs
@@ -77,9 +77,9 @@ pub counts_small : (s : Space) → Sound s → AreSmall (counts_of s)
 counts_small s sound = record {
   allocated = bytes_small _ (region_bytes_fits s sound);
   active = bytes_small _ (bytes_where_fits is_active s sound);
-  dirty = bytes_small _ (bytes_where_fits (is_listed ToDirty) s sound);
-  muzzy = bytes_small _ (bytes_where_fits (is_listed ToMuzzy) s sound);
-  retained = bytes_small _ (bytes_where_fits (is_listed ToRetained) s sound);
+  dirty = bytes_small _ (bytes_where_fits (is_listed rests.Dirty) s sound);
+  muzzy = bytes_small _ (bytes_where_fits (is_listed rests.Muzzy) s sound);
+  retained = bytes_small _ (bytes_where_fits (is_listed rests.Retained) s sound);
   flight = bytes_small _ (bytes_where_fits is_in_flight s sound);
   mapped = bytes_small _ (bytes_where_fits is_mapped s sound);
   small = bytes_small _ (region_bytes_where_fits (λ class. ltb class 36) s sound);

@@ -1,10 +1,11 @@
 -- An extent comes, or goes.
-use Rattle.part_book.proofs.Words.{IsThere, ArePagesOf, GainsPages, IsTrue, PageSums, is_active, CanEnter, GainsLists, HasEdges, HaveRows, KeepsOthers, Lists, LosesLists, lists_of, ◌≡◌, ◌≢◌, ℕ, ◌+◌, ◌-◌, ◌/◌, ◌^◌, ◌<◌, ◌≤◌, Bool, true, false, cond, eqb, ltb, ◌||◌, List, [], ◌∷◌, ◌++◌, filter, find, length, count_by, Option, Some, None, is_some, option_map, set_at, vec_len, vec_capacity, inl, inr, refl, sym, ap, ◌∙◌, subst, arith, All, length-append, Contains, option_to_list, nat_cmp, sum_by, not, IsSome, unsigned_tied, nat_cmp_total, cases_Bool, eq-eqb, false_from_ne_true, eqb-true, not-true, nat_tests, get_or-set_other, get_or-set_same, length-map, map-append, All-contains, All-filter, All-map, All-push, All-weaker, filter-append, find-append, count_by-le-length, length-filter, sum_by-append, sum_by-cons, sum_by_push, Part, Rest, ToDirty, ToMuzzy, ToRetained, IsPlaced, end_of, meets, has_page, is_listed, begins_at, is_in_flight, AgeList, Table, HasMore, leaves_for, CanList, GainsRow, CanUnlist, LosesRow, IsApart, IsKeyed, Row, first_key, is_edge, keys_with, listed_in, numbers_of, part_at, size_key, with_edges, keys_without, without_edges, CanLower, HasListRoom, IsListOf, IsSlotted, IsRowTable, KeepsExtents, parts_of, rows_of, all_from, bit, count_some, find_none, map_has, count_less_one, count_kept, count_map, filter_all_of, filter_map_is, filter_none_of, filter_swap, find_kept, found, kept_length, only, sum_by-filter_both, filter_from, filter_has, Pages}
+use Rattle.part_book.proofs.Words.{IsThere, ArePagesOf, GainsPages, IsTrue, PageSums, is_active, CanEnter, GainsLists, HasEdges, HaveRows, KeepsOthers, Lists, LosesLists, lists_of, ◌≡◌, ◌≢◌, ℕ, ◌+◌, ◌-◌, ◌/◌, ◌^◌, ◌<◌, ◌≤◌, Bool, true, false, cond, eqb, ltb, ◌||◌, List, [], ◌∷◌, ◌++◌, filter, find, length, count_by, Option, Some, None, is_some, option_map, set_at, vec_len, vec_capacity, inl, inr, refl, sym, ap, ◌∙◌, subst, arith, All, length-append, Contains, option_to_list, nat_cmp, sum_by, not, IsSome, unsigned_tied, nat_cmp_total, cases_Bool, eq-eqb, false_from_ne_true, eqb-true, not-true, nat_tests, get_or-set_other, get_or-set_same, length-map, map-append, All-contains, All-filter, All-map, All-push, All-weaker, filter-append, find-append, count_by-le-length, length-filter, sum_by-append, sum_by-cons, sum_by_push, Part, Rest, IsPlaced, end_of, meets, has_page, is_listed, begins_at, is_in_flight, AgeList, Table, HasMore, leaves_for, CanList, GainsRow, CanUnlist, LosesRow, IsApart, IsKeyed, Row, first_key, is_edge, keys_with, listed_in, numbers_of, part_at, size_key, with_edges, keys_without, without_edges, CanLower, HasListRoom, IsListOf, IsSlotted, IsRowTable, KeepsExtents, parts_of, rows_of, all_from, bit, count_some, find_none, map_has, count_less_one, count_kept, count_map, filter_all_of, filter_map_is, filter_none_of, filter_swap, find_kept, found, kept_length, only, sum_by-filter_both, filter_from, filter_has, Pages}
 use Rattle.part_book.proofs.Indexes.{IsLeafed, in_slots, keeps, parts_in, edge_none, edge_part, edge_row, slot_of, small_numbers}
 use Rattle.part_book.proofs.Keyed.{first_own, key_absent, keyed_more, size_own, keyed_less}
 use Rattle.part_book.proofs.Parts.{edge_has, begins_by_edge}
 use Rattle.part_book.proofs.Rowed.{apart_more, page_meets, pages_most, pages_of_row, serving_of, sums_most, row_placed, apart_less, numbers_most, one_number, one_row, other_row, others, others_apart, others_begin}
 use Rattle.std.specs.FinMap as map_of
+use Rattle.space_model.specs.declared.Rest.TheVariants as rests
 
 -- an extent with a number that no other has, and that meets no other, where there are so many slots
 pub record IsFresh (slots : ℕ) (rows : List Row) (row : Row) : Type 0 where
@@ -72,25 +73,25 @@ more_numbers : (test : Row → Bool) (rows : List Row) (row : Row) → numbers_o
 more_numbers test rows row = grind (arith, nat_tests, map-append, more)
 
 -- an extent is unused for one rest at most, and then it has a key
-pub one_rest : (row : Row) → bit (is_listed ToDirty row.part.state) + bit (is_listed ToMuzzy row.part.state) + bit (is_listed ToRetained row.part.state) ≡ bit (is_some (size_key row))
+pub one_rest : (row : Row) → bit (is_listed rests.Dirty row.part.state) + bit (is_listed rests.Muzzy row.part.state) + bit (is_listed rests.Retained row.part.state) ≡ bit (is_some (size_key row))
 one_rest row = grind (arith, nat_tests)
 
 -- no more are unused than there are
-unused_most : (rows : List Row) → length (listed_in ToDirty rows) + length (listed_in ToMuzzy rows) + length (listed_in ToRetained rows) ≤ length rows
+unused_most : (rows : List Row) → length (listed_in rests.Dirty rows) + length (listed_in rests.Muzzy rows) + length (listed_in rests.Retained rows) ≤ length rows
 unused_most rows =
-    let d : Row → Bool = λ r. is_listed ToDirty r.part.state in
-    let m : Row → Bool = λ r. is_listed ToMuzzy r.part.state in
-    let e : Row → Bool = λ r. is_listed ToRetained r.part.state in
+    let d : Row → Bool = λ r. is_listed rests.Dirty r.part.state in
+    let m : Row → Bool = λ r. is_listed rests.Muzzy r.part.state in
+    let e : Row → Bool = λ r. is_listed rests.Retained r.part.state in
     omega (arith, length-filter d rows, length-filter m rows, length-filter e rows, counts rows)
   where
     most : (b : Bool) → bit b ≤ 1
     most true = omega arith
     most false = omega arith
 
-    counts : (xs : List Row) → count_by (λ r. is_listed ToDirty r.part.state) xs + count_by (λ r. is_listed ToMuzzy r.part.state) xs + count_by (λ r. is_listed ToRetained r.part.state) xs ≤ length xs
+    counts : (xs : List Row) → count_by (λ r. is_listed rests.Dirty r.part.state) xs + count_by (λ r. is_listed rests.Muzzy r.part.state) xs + count_by (λ r. is_listed rests.Retained r.part.state) xs ≤ length xs
     counts [] = omega arith
     counts (x ∷ xs) =
-        omega (arith, counts xs, one_rest x, most (is_some (size_key x)), sum_by-cons (λ (r : Row). bit (is_listed ToDirty r.part.state)) x xs, sum_by-cons (λ (r : Row). bit (is_listed ToMuzzy r.part.state)) x xs, sum_by-cons (λ (r : Row). bit (is_listed ToRetained r.part.state)) x xs)
+        omega (arith, counts xs, one_rest x, most (is_some (size_key x)), sum_by-cons (λ (r : Row). bit (is_listed rests.Dirty r.part.state)) x xs, sum_by-cons (λ (r : Row). bit (is_listed rests.Muzzy r.part.state)) x xs, sum_by-cons (λ (r : Row). bit (is_listed rests.Retained r.part.state)) x xs)
 
 -- the slots and the free numbers of a table whose extents are others
 pub slotted : (t u : Table) (rows now : List Row) → IsSlotted t rows → vec_len u.slots ≡ vec_len t.slots →
@@ -127,9 +128,9 @@ module _ (rows : List Row) (row : Row) (slots : ℕ) (f : IsFresh slots rows row
   pub can_enter : (t : Table) (more : ℕ) → IsApart (parts_in rows) → HaveRows (lists_of t) slots rows → HasListRoom t more → length t.order.numbers + more ≡ length rows + 1 → CanEnter t row
   can_enter t more apart l room all =
       let in_flight : Row → Bool = λ r. is_in_flight r.part.state in
-      let d = ap length l.dirty.numbers ∙ length-map (listed_in ToDirty rows) (λ r. r.number) in
-      let m = ap length l.muzzy.numbers ∙ length-map (listed_in ToMuzzy rows) (λ r. r.number) in
-      let e = ap length l.retained.numbers ∙ length-map (listed_in ToRetained rows) (λ r. r.number) in
+      let d = ap length l.dirty.numbers ∙ length-map (listed_in rests.Dirty rows) (λ r. r.number) in
+      let m = ap length l.muzzy.numbers ∙ length-map (listed_in rests.Muzzy rows) (λ r. r.number) in
+      let e = ap length l.retained.numbers ∙ length-map (listed_in rests.Retained rows) (λ r. r.number) in
       let flown = ap length l.flights ∙ length-map (filter in_flight rows) (λ r. r.number) in
       let small = f.small in
       let slot = f.slot in
@@ -137,9 +138,9 @@ module _ (rows : List Row) (row : Row) (slots : ℕ) (f : IsFresh slots rows row
       let sums = sums_most t.sums rows apart l.sums in
       record {
         placed = f.placed;
-        dirty = can_list apart ToDirty t.dirty l.dirty;
-        muzzy = can_list apart ToMuzzy t.muzzy l.muzzy;
-        retained = can_list apart ToRetained t.retained l.retained;
+        dirty = can_list apart rests.Dirty t.dirty l.dirty;
+        muzzy = can_list apart rests.Muzzy t.muzzy l.muzzy;
+        retained = can_list apart rests.Retained t.retained l.retained;
         sizes = λ _. omega (arith, unused_most rows, room.sizes);
         absent = key_absent size_key rows row t.sizes.keys l.sizes (λ r k n a b. size_own r row k (let low = (f.others r n).1 in omega arith) (omega arith) a b) (λ r n. (f.others r n).0);
         within = sums.0;
@@ -162,9 +163,9 @@ module _ (rows : List Row) (row : Row) (slots : ℕ) (f : IsFresh slots rows row
   -- the lists have it besides
   pub lists_more : (l k : Lists) → HaveRows l slots rows → GainsLists l k row → HaveRows k slots (rows ++ row ∷ [])
   lists_more l k has g = record {
-    dirty = listed_more ToDirty l.dirty k.dirty has.dirty g.dirty;
-    muzzy = listed_more ToMuzzy l.muzzy k.muzzy has.muzzy g.muzzy;
-    retained = listed_more ToRetained l.retained k.retained has.retained g.retained;
+    dirty = listed_more rests.Dirty l.dirty k.dirty has.dirty g.dirty;
+    muzzy = listed_more rests.Muzzy l.muzzy k.muzzy has.muzzy g.muzzy;
+    retained = listed_more rests.Retained l.retained k.retained has.retained g.retained;
     sums = record { all = omega (arith, has.sums.all, g.sums.all, sum_by_push pages_of_row rows row); active = omega (arith, has.sums.active, g.sums.active, sum_by_push serving_of rows row) };
     flights = g.flights ∙ ap (λ ns. ns ++ cond (is_in_flight row.part.state) (row.number ∷ []) []) has.flights ∙ sym (more_numbers (λ r. is_in_flight r.part.state) rows row);
     sizes = subst (IsKeyed size_key (rows ++ row ∷ [])) (sym g.sizes) (keyed_more size_key rows row l.sizes has.sizes);
@@ -308,9 +309,9 @@ module _ (t : Table) (rows : List Row) (row : Row) (i : IsRowTable t rows) (m : 
   lists_less k lost =
       let l = i.indexes.lists in
       record {
-        dirty = listed_less ToDirty t.dirty k.dirty l.dirty lost.dirty;
-        muzzy = listed_less ToMuzzy t.muzzy k.muzzy l.muzzy lost.muzzy;
-        retained = listed_less ToRetained t.retained k.retained l.retained lost.retained;
+        dirty = listed_less rests.Dirty t.dirty k.dirty l.dirty lost.dirty;
+        muzzy = listed_less rests.Muzzy t.muzzy k.muzzy l.muzzy lost.muzzy;
+        retained = listed_less rests.Retained t.retained k.retained l.retained lost.retained;
         sums = sums_less k.sums lost.sums;
         flights = lost.flights ∙ ap (λ ns. cond (is_in_flight row.part.state) (filter (λ n. not (eqb n row.number)) ns) ns) l.flights ∙ sym (less (λ r. is_in_flight r.part.state));
         sizes = subst (IsKeyed size_key (others row.number rows)) (sym lost.sizes) (keyed_less size_key rows row t.sizes.keys l.sizes m one (λ r k n e f. size_own r row k (small_numbers t rows i.slots r n) (small_numbers t rows i.slots row m) e f));

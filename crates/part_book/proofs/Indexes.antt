@@ -1,8 +1,9 @@
 -- What the indexes of a table say of its extents.
-use Rattle.part_book.proofs.Words.{numbers_of, ◌≡◌, ℕ, ◌-◌, ◌/◌, ◌^◌, ◌<◌, ◌≤◌, Bool, true, false, cond, eqb, List, [], ◌∷◌, length, map, filter, find, get_or, slice_get, Option, Some, None, option_map, count_by, vec_len, refl, sym, ap, ◌∙◌, subst, arith, All, Contains, nat_cmp, true_from_ne_false, IsPlaced, end_of, nat_tests, All-contains, All-head, All-nil, All-tail, Contains-get_or, get_or_default_zero, find_at, position_or_len_is, sum_by-cons, IsStrictlySortedBy-filter, get_or_from_slice_get, slice_get-get_or, slice_get_within, Key, IsAscending, is_below, is_from, key_cmp, last_of, every_member, filter_from, filter_has, from_start, last_greatest, major_less, start, start_from, Part, State, is_flight, is_in_flight, Rest, ToDirty, ToMuzzy, ToRetained, AgeList, Table, IsFirstFrom, IsKeyed, IsLastBelow, Row, first_key, flights_in, is_edge, part_at, row_at, size_key, IsIndexed, IsListOf, IsSlotted, IsRowTable, KeepsExtents, rows_of, all_from, count_some, find_map, find_none, found, map_from, map_has, mapped_none, mapped_some, none_found}
+use Rattle.part_book.proofs.Words.{numbers_of, ◌≡◌, ℕ, ◌-◌, ◌/◌, ◌^◌, ◌<◌, ◌≤◌, Bool, true, false, cond, eqb, List, [], ◌∷◌, length, map, filter, find, get_or, slice_get, Option, Some, None, option_map, count_by, vec_len, refl, sym, ap, ◌∙◌, subst, arith, All, Contains, nat_cmp, true_from_ne_false, IsPlaced, end_of, nat_tests, All-contains, All-head, All-nil, All-tail, Contains-get_or, get_or_default_zero, find_at, position_or_len_is, sum_by-cons, IsStrictlySortedBy-filter, get_or_from_slice_get, slice_get-get_or, slice_get_within, Key, IsAscending, is_below, is_from, key_cmp, last_of, every_member, filter_from, filter_has, from_start, last_greatest, major_less, start, start_from, Part, State, is_flight, is_in_flight, Rest, AgeList, Table, IsFirstFrom, IsKeyed, IsLastBelow, Row, first_key, flights_in, is_edge, part_at, row_at, size_key, IsIndexed, IsListOf, IsSlotted, IsRowTable, KeepsExtents, rows_of, all_from, count_some, find_map, find_none, found, map_from, map_has, mapped_none, mapped_some, none_found}
 use Rattle.part_book.proofs.Walks.{find_some}
 use Rattle.std.specs.FinMap as map_of
 use Rattle.std.specs.FinSet as set
+use Rattle.space_model.specs.declared.Rest.TheVariants as rests
 
 -- the extents of some rows
 abbrev pub parts_in : List Row → List Part
@@ -201,9 +202,9 @@ empty_table t order dirty muzzy retained flights sums firsts sizes numbers slots
     order = order;
     places = omega arith;
     lists = record {
-      dirty = no_list ToDirty t.dirty (vec_len t.slots) dirty slots;
-      muzzy = no_list ToMuzzy t.muzzy (vec_len t.slots) muzzy slots;
-      retained = no_list ToRetained t.retained (vec_len t.slots) retained slots;
+      dirty = no_list rests.Dirty t.dirty (vec_len t.slots) dirty slots;
+      muzzy = no_list rests.Muzzy t.muzzy (vec_len t.slots) muzzy slots;
+      retained = no_list rests.Retained t.retained (vec_len t.slots) retained slots;
       flights = flights;
       sums = record { all = ap (λ s. s.all) sums; active = ap (λ s. s.active) sums };
       sizes = no_keys size_key t.sizes.keys sizes;

@@ -36,7 +36,6 @@ pub use Rattle.space_model.specs.Span.{IsPlaced, end_of, meets, has_page, holds_
 pub use Rattle.space_model.specs.Step.{begins_either, low_piece, high_piece, is_left_of, is_like, is_right_of}
 pub use Rattle.space_model.specs.declared.parts.Part.{Part}
 pub use Rattle.space_model.specs.declared.parts.Rest.{Rest}
-pub use Rattle.space_model.specs.declared.parts.Rest.TheVariants.{Dirty as ToDirty, Muzzy as ToMuzzy, Retained as ToRetained}
 pub use Rattle.space_model.specs.declared.parts.Span.{Span}
 pub use Rattle.space_model.specs.declared.parts.State.{State}
 pub use Rattle.space_model.specs.declared.parts.State.TheVariants.{Active, Dirty, Muzzy, Retained, Flight}

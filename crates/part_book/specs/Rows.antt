@@ -5,7 +5,6 @@ use Rattle.std.specs.FinMap as map_of
 use Rattle.std.specs.FinSet as set
 use Rattle.space_model.specs.declared.parts.Part.{Part}
 use Rattle.space_model.specs.declared.parts.Rest.{Rest}
-use Rattle.space_model.specs.declared.parts.Rest.TheVariants.{Dirty as ToDirty, Muzzy as ToMuzzy, Retained as ToRetained}
 use Rattle.space_model.specs.declared.parts.Span.{Span}
 use Rattle.space_model.specs.declared.parts.State.{State}
 use Rattle.space_model.specs.declared.parts.State.TheVariants.{Active, Dirty, Muzzy, Retained, Flight}
@@ -16,6 +15,7 @@ use Rattle.ordered_set.specs.declared.key.Key.{Key}
 use Rattle.ordered_set.specs.Keys.{with_key, without_key}
 use Rattle.page_map.specs.Pages.{Pages}
 use Rattle.part_book.specs.Books.{ends_at}
+use Rattle.space_model.specs.declared.Rest.TheVariants as rests
 
 -- an extent with its number
 pub record Row : Type 0 where
@@ -81,9 +81,9 @@ first_key row = Some (record { major = row.part.span.first; minor = row.number }
 
 -- where the extents of a rest stand among the unused ones
 abbrev pub rank : Rest → ℕ
-rank ToDirty = 0
-rank ToMuzzy = 1
-rank ToRetained = 2
+rank rests.Dirty = 0
+rank rests.Muzzy = 1
+rank rests.Retained = 2
 
 -- where an extent in a state stands, if it is unused
 abbrev pub rank_of : State → Option ℕ

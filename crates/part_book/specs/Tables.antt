@@ -4,7 +4,6 @@ use Rattle.std.specs.FinMap as map_of
 use Rattle.std.specs.FinSet as set
 use Rattle.space_model.specs.declared.parts.Part.{Part}
 use Rattle.space_model.specs.declared.parts.Rest.{Rest}
-use Rattle.space_model.specs.declared.parts.Rest.TheVariants.{Dirty as ToDirty, Muzzy as ToMuzzy, Retained as ToRetained}
 use Rattle.space_model.specs.Span.{IsPlaced, end_of}
 use Rattle.space_model.specs.Part.{begins_at, is_active}
 use Rattle.space_model.specs.Sound.{is_in_flight}
@@ -15,6 +14,7 @@ use Rattle.part_book.specs.declared.table.PageSums.{PageSums}
 use Rattle.part_book.specs.declared.table.Table.{Table}
 use Rattle.part_book.specs.Lists.{CanList, GainsPages, GainsRow, LosesRow}
 use Rattle.part_book.specs.Rows.{Row, IsApart, IsKeyed, first_key, flights_in, is_edge, keys_with, keys_without, listed_in, numbers_of, pages_of_rows, part_at, row_at, size_key}
+use Rattle.space_model.specs.declared.Rest.TheVariants as rests
 
 -- the extents with their numbers, in their order
 unfoldable pub rows_of : Table → List Row
@@ -49,9 +49,9 @@ lists_of t = record { dirty = t.dirty; muzzy = t.muzzy; retained = t.retained; f
 
 -- the lists have what they shall have of the extents, and places for so many numbers
 pub record HaveRows (l : Lists) (slots : ℕ) (rows : List Row) : Type 0 where
-  pub dirty : IsListOf ToDirty l.dirty slots rows
-  pub muzzy : IsListOf ToMuzzy l.muzzy slots rows
-  pub retained : IsListOf ToRetained l.retained slots rows
+  pub dirty : IsListOf rests.Dirty l.dirty slots rows
+  pub muzzy : IsListOf rests.Muzzy l.muzzy slots rows
+  pub retained : IsListOf rests.Retained l.retained slots rows
   pub flights : l.flights ≡ flights_in rows
   pub sums : ArePagesOf l.sums rows
   pub sizes : IsKeyed size_key rows l.sizes
@@ -103,18 +103,18 @@ pub record KeepsExtents (t : Table) (extents : List Part) : Type 0 where
 
 -- the lists lose the extent
 pub record LosesLists (l k : Lists) (row : Row) : Type 0 where
-  pub dirty : LosesRow ToDirty l.dirty k.dirty row
-  pub muzzy : LosesRow ToMuzzy l.muzzy k.muzzy row
-  pub retained : LosesRow ToRetained l.retained k.retained row
+  pub dirty : LosesRow rests.Dirty l.dirty k.dirty row
+  pub muzzy : LosesRow rests.Muzzy l.muzzy k.muzzy row
+  pub retained : LosesRow rests.Retained l.retained k.retained row
   pub flights : k.flights ≡ cond (is_in_flight row.part.state) (filter (λ n. not (n == row.number)) l.flights) l.flights
   pub sums : GainsPages k.sums l.sums row.part
   pub sizes : k.sizes ≡ keys_without l.sizes (size_key row)
 
 -- the lists gain the extent
 pub record GainsLists (l k : Lists) (row : Row) : Type 0 where
-  pub dirty : GainsRow ToDirty l.dirty k.dirty row
-  pub muzzy : GainsRow ToMuzzy l.muzzy k.muzzy row
-  pub retained : GainsRow ToRetained l.retained k.retained row
+  pub dirty : GainsRow rests.Dirty l.dirty k.dirty row
+  pub muzzy : GainsRow rests.Muzzy l.muzzy k.muzzy row
+  pub retained : GainsRow rests.Retained l.retained k.retained row
   pub flights : k.flights ≡ l.flights ++ cond (is_in_flight row.part.state) (row.number ∷ []) []
   pub sums : GainsPages l.sums k.sums row.part
   pub sizes : k.sizes ≡ keys_with l.sizes (size_key row)

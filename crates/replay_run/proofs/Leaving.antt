@@ -5,12 +5,11 @@ use Rattle.space_model.specs.Outcome.{Outcome, PutDown, LookNoArena, CutKept, Cu
 use Rattle.space_model.specs.Clients.{without_client}
 use Rattle.space_model.specs.Part.{is_flight_at}
 use Rattle.space_model.specs.Step.{op_stands}
-use Rattle.space_model.specs.declared.Answer.TheVariants.{Refused as Refuses}
 use Rattle.space_model.specs.declared.Ask.TheVariants.{Commit, Split}
 use Rattle.space_model.specs.declared.Heard.{Heard}
 use Rattle.space_model.specs.declared.Op.TheVariants.{Look, CutDone, GrowDone, CommitDone, Land, Fill, DestroyTake, Set, TrimDone}
 use Rattle.space_model.specs.declared.Part.{Part}
-use Rattle.space_model.specs.declared.Reply.TheVariants.{NoArena, Nothing, Noted, Busy as InUse, Bad}
+use Rattle.space_model.specs.declared.Reply.TheVariants.{NoArena, Nothing, Noted, Bad}
 use Rattle.space_model.specs.declared.Setting.{Setting}
 use Rattle.hook_api.specs.Asked.{heard_in}
 use Rattle.call_plan.specs.declared.needs.Answered.TheVariants.{ArenasFull, Busy}
@@ -27,12 +26,14 @@ use Rattle.replay_run.proofs.Tales.{EndsHere, OfCall, each_event, line_heap, mea
 use Rattle.replay_run.proofs.Ways.{Leads, bad_at, full_at, in_use_at, no_arena_reply, not_held_at}
 use Rattle.replay_run.specs.World.{settled}
 use Rattle.replay_run.specs.Leaving.{EventLeaves, EventsLeave, GivesRegions, IsCreate, IsFruitless, IsMalloc, Leaves, OwnTurnLeaves, RefusalLeaves}
+use Rattle.space_model.specs.declared.Answer.TheVariants as answers
+use Rattle.space_model.specs.declared.Reply.TheVariants as replies
 
 -- ---- what a refusal leaves
 
 module _ (c : ℕ) (s t : Space) where
   cut_leaves : (heard : Heard) (keep_low : Bool) (span : Span) (left : ℕ) (reply : Reply) → Outcome c s t (CutDone heard keep_low) reply → reply ≡ (step_of s c (CutDone heard keep_low)).reply →
-      heard.ask ≡ Split span left → heard.answer ≡ Refuses → PutDown c s t span
+      heard.ask ≡ Split span left → heard.answer ≡ answers.Refused → PutDown c s t span
   cut_leaves heard keep_low span left reply (CutKept of kept cut b asked flies is stays) told ask refuses = by (find (is_flight_at c span) s.parts) refl
     where
       by : (found : Option Part) → find (is_flight_at c span) s.parts ≡ found → PutDown c s t span
@@ -40,12 +41,12 @@ module _ (c : ℕ) (s t : Space) where
   cut_leaves heard keep_low span left reply (CutWhole of cut asked down) told ask refuses =
       let same : of ≡ span = grind (arith, asked, ask) in subst (PutDown c s t) same down
 
-  grow_leaves : (heard : Heard) (found : Option ℕ) (reply : Reply) → Outcome c s t (GrowDone heard found) reply → reply ≡ (step_of s c (GrowDone heard found)).reply → heard.answer ≡ Refuses → t ≡ s
+  grow_leaves : (heard : Heard) (found : Option ℕ) (reply : Reply) → Outcome c s t (GrowDone heard found) reply → reply ≡ (step_of s c (GrowDone heard found)).reply → heard.answer ≡ answers.Refused → t ≡ s
   grow_leaves heard found reply (GrowRefused same) told refuses = same
   grow_leaves heard found reply (GrowBad why same) told refuses = same
   grow_leaves heard found reply (GrowGrown span b at align commit asked flies) told refuses = absurd (grind (arith, told, asked, refuses))
 
-  commit_leaves : (heard : Heard) (span : Span) (reply : Reply) → Outcome c s t (CommitDone heard) reply → op_stands s c (CommitDone heard) ≡ true → reply ≡ (step_of s c (CommitDone heard)).reply → heard.ask ≡ Commit span → heard.answer ≡ Refuses → PutDown c s t span
+  commit_leaves : (heard : Heard) (span : Span) (reply : Reply) → Outcome c s t (CommitDone heard) reply → op_stands s c (CommitDone heard) ≡ true → reply ≡ (step_of s c (CommitDone heard)).reply → heard.ask ≡ Commit span → heard.answer ≡ answers.Refused → PutDown c s t span
   commit_leaves heard span reply (CommitNoted of asked flies) stands told ask refuses = by (find (is_flight_at c span) s.parts) refl
     where
       by : (found : Option Part) → find (is_flight_at c span) s.parts ≡ found → PutDown c s t span
@@ -53,7 +54,7 @@ module _ (c : ℕ) (s t : Space) where
   commit_leaves heard span reply (CommitWhole of asked down) stands told ask refuses =
       let same : of ≡ span = grind (arith, asked, ask) in subst (PutDown c s t) same down
 
-  trim_leaves : (heard : Heard) (class : ℕ) (reply : Reply) → Outcome c s t (TrimDone heard class) reply → reply ≡ (step_of s c (TrimDone heard class)).reply → heard.answer ≡ Refuses →
+  trim_leaves : (heard : Heard) (class : ℕ) (reply : Reply) → Outcome c s t (TrimDone heard class) reply → reply ≡ (step_of s c (TrimDone heard class)).reply → heard.answer ≡ answers.Refused →
       t ≡ record s { trims = without_client c s.trims }
   trim_leaves heard class reply (TrimWhole same) told refuses = same
   trim_leaves heard class reply (TrimCut span flies) told refuses = absurd (grind (arith, told, refuses))
@@ -63,7 +64,7 @@ module _ (c : ℕ) (s t : Space) where
 abbrev IsIdle : Reply → Type 0
 IsIdle NoArena = Unit {0}
 IsIdle Nothing = Unit {0}
-IsIdle (InUse held flights threads) = Unit {0}
+IsIdle (replies.Busy held flights threads) = Unit {0}
 IsIdle (Bad why) = Unit {0}
 IsIdle reply = ⊥
 
@@ -132,7 +133,7 @@ record Made (w : World) (c : ℕ) (call : CallFacts) (op : Op) (asked : Option A
 
 -- an ask of the kinds of a malloc was refused
 place_leaves : (w : World) (c : ℕ) (call : CallFacts) (place : AskPoint) (heard : AskFacts) (s t : Space) (reply : Reply) → op_stands s c (op_for w.heap call (done_at place heard)) ≡ true → Outcome c s t (op_for w.heap call (done_at place heard)) reply →
-    reply ≡ (step_of s c (op_for w.heap call (done_at place heard))).reply → heard.ask ≡ ask_at place → heard.answer ≡ Refuses → RefusalLeaves c (done_at place heard) s t (ask_at place)
+    reply ≡ (step_of s c (op_for w.heap call (done_at place heard))).reply → heard.ask ≡ ask_at place → heard.answer ≡ answers.Refused → RefusalLeaves c (done_at place heard) s t (ask_at place)
 place_leaves w c call (Skipping wish span b skip) heard s t reply stands goes told is refuses = cut_leaves c s t (heard_in heard) false span skip reply goes told is refuses
 place_leaves w c call (Trimming wish span b) heard s t reply stands goes told is refuses = cut_leaves c s t (heard_in heard) true span wish.pages reply goes told is refuses
 place_leaves w c call (SplittingGrown wish span b) heard s t reply stands goes told is refuses = cut_leaves c s t (heard_in heard) true span wish.pages reply goes told is refuses
@@ -147,12 +148,12 @@ place_leaves w c call (Backing resize span) heard s t reply stands goes told is 
 place_leaves w c call place heard s t reply stands goes told is refuses = tt
 
 refused_leaves : (w : World) (c : ℕ) (call : CallFacts) (op : Op) (asked : Option AskFacts) (point : Point) (s t : Space) (reply : Reply) → Made w c call op asked point s t reply →
-    (heard : AskFacts) → asked ≡ Some heard → heard.answer ≡ Refuses → RefusalLeaves c op s t heard.ask
+    (heard : AskFacts) → asked ≡ Some heard → heard.answer ≡ answers.Refused → RefusalLeaves c op s t heard.ask
 refused_leaves w c call op asked (Asks place (Some before)) s t reply made heard is refuses =
     let same : before ≡ heard = cc in
     let same_op : done_at place before ≡ op = cc in
     let asks : before.ask ≡ ask_at place = made.hears place before refl in
-    let refused : before.answer ≡ Refuses = subst (λ (a : AskFacts). a.answer ≡ Refuses) (sym same) refuses in
+    let refused : before.answer ≡ answers.Refused = subst (λ (a : AskFacts). a.answer ≡ answers.Refused) (sym same) refuses in
     let goes : Outcome c s t (op_for w.heap call (done_at place before)) reply = subst (λ (o : Op). Outcome c s t (op_for w.heap call o) reply) (sym same_op) made.goes in
     let stands : op_stands s c (op_for w.heap call (done_at place before)) ≡ true = subst (λ (o : Op). op_stands s c (op_for w.heap call o) ≡ true) (sym same_op) made.stands in
     let told : reply ≡ (step_of s c (op_for w.heap call (done_at place before))).reply = subst (λ (o : Op). reply ≡ (step_of s c (op_for w.heap call o)).reply) (sym same_op) made.told in

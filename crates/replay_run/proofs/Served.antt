@@ -7,7 +7,7 @@ use Rattle.space_model.specs.Clients.{is_in}
 use Rattle.space_model.specs.Holding.{is_published_at}
 use Rattle.space_model.specs.declared.Op.TheVariants.{Reset as ResetOp, Destroy as DestroyOp, TakeOver}
 use Rattle.space_model.specs.declared.Region.{Region as SpaceRegion}
-use Rattle.space_model.specs.declared.Reply.TheVariants.{Bad, NoArena, Nothing, Busy as InUse}
+use Rattle.space_model.specs.declared.Reply.TheVariants.{Bad, NoArena, Nothing}
 use Rattle.call_plan.proofs.Swaps.{meant_slot}
 use Rattle.call_plan.specs.Causes.{CauseIn}
 use Rattle.call_plan.specs.Clients.{has_cache, held_at}
@@ -24,6 +24,7 @@ use Rattle.replay_run.proofs.Tales.{EndsHere, EndsWith, Kept, OfCall, each_event
 use Rattle.replay_run.proofs.Truths.{event_true}
 use Rattle.replay_run.proofs.Ways.{CanGo, Empties, Leads, OwnsAt, PointDooms, PointFrees, PointResizes, begin_leads, in_use_at, no_arena_at, not_held_at, publish_leads, settle_leads, step_leads, takes_frees}
 use Rattle.replay_run.specs.Served.{IsHelped, IsMet, IsMetBy, IsServed, IsServedThere, IsValid, MayCome, Serves, ValidAreServed}
+use Rattle.space_model.specs.declared.Reply.TheVariants as replies
 
 -- ---- arenas that serve somebody are live
 
@@ -57,10 +58,10 @@ untaken s c addr told some = by (find (is_published_at addr) s.regions) refl
     by (Some r) is = grind (arith, told)
 
 -- an arena in nobody's use is emptied or ended
-unused : (s : Space) (c cached held flights threads : ℕ) → (step_of s c (ResetOp cached)).reply ≡ InUse held flights threads → IsMetBy s c (ResetOp cached) → ⊥
+unused : (s : Space) (c cached held flights threads : ℕ) → (step_of s c (ResetOp cached)).reply ≡ replies.Busy held flights threads → IsMetBy s c (ResetOp cached) → ⊥
 unused s c cached held flights threads told met = grind (arith, nat_tests)
 
-unused_end : (s : Space) (c cached held flights threads : ℕ) → (step_of s c (DestroyOp cached)).reply ≡ InUse held flights threads → IsMetBy s c (DestroyOp cached) → ⊥
+unused_end : (s : Space) (c cached held flights threads : ℕ) → (step_of s c (DestroyOp cached)).reply ≡ replies.Busy held flights threads → IsMetBy s c (DestroyOp cached) → ⊥
 unused_end s c cached held flights threads told met = grind (arith, nat_tests)
 
 -- ---- what is so where an answer comes
@@ -68,7 +69,7 @@ unused_end s c cached held flights threads told met = grind (arith, nat_tests)
 -- what is seen of an answer: the turn that was told so didn't meet what the request needs
 abbrev Seen : World → WorldEvent → Tale → Request → Answered → Type 0
 Seen w event tale request (NotHeld addr) = Contains tale.items (Replied Nothing) → IsMet w.heap event → ⊥
-Seen w event tale request (Busy held flights threads) = Contains tale.items (Replied (InUse held flights threads)) → IsMet w.heap event → ⊥
+Seen w event tale request (Busy held flights threads) = Contains tale.items (Replied (replies.Busy held flights threads)) → IsMet w.heap event → ⊥
 Seen w event tale request (NoSuchArena index) = Contains tale.items (Replied NoArena) → IsValid w event tale request → ⊥
 Seen w event tale request answer = Unit {0}
 
@@ -181,17 +182,17 @@ taken_not w c call op asked (Turns (Owning addr frees past)) reply at nothing ow
     (subst (IsMetBy (record_at w.heap.records call.stage.arena).space c) (sym is) met)
 taken_not w c call op asked point reply addr nothing owns wants told met = absurd (grind arith)
 
-used_not : (w : World) (c : ℕ) (call : CallFacts) (op : Op) (asked : Option AskFacts) (point : Point) (reply : Reply) (held flights threads : ℕ) → reply ≡ InUse held flights threads → Empties point → want point ≡ WantTurn op asked →
+used_not : (w : World) (c : ℕ) (call : CallFacts) (op : Op) (asked : Option AskFacts) (point : Point) (reply : Reply) (held flights threads : ℕ) → reply ≡ replies.Busy held flights threads → Empties point → want point ≡ WantTurn op asked →
     reply ≡ (step_of (record_at w.heap.records call.stage.arena).space c (op_for w.heap call op)).reply → IsMetBy (record_at w.heap.records call.stage.arena).space c op → ⊥
 used_not w c call op asked (Turns (Resetting cached)) reply held flights threads busy empties wants told met =
     let is : ResetOp cached ≡ op = cc in
     unused (record_at w.heap.records call.stage.arena).space c cached held flights threads
-    (sym (subst (λ (o : Op). InUse held flights threads ≡ (step_of (record_at w.heap.records call.stage.arena).space c (op_for w.heap call o)).reply) (sym is) (sym busy ∙ told)))
+    (sym (subst (λ (o : Op). replies.Busy held flights threads ≡ (step_of (record_at w.heap.records call.stage.arena).space c (op_for w.heap call o)).reply) (sym is) (sym busy ∙ told)))
     (subst (IsMetBy (record_at w.heap.records call.stage.arena).space c) (sym is) met)
 used_not w c call op asked (Turns (Destroying cached)) reply held flights threads busy empties wants told met =
     let is : DestroyOp cached ≡ op = cc in
     unused_end (record_at w.heap.records call.stage.arena).space c cached held flights threads
-    (sym (subst (λ (o : Op). InUse held flights threads ≡ (step_of (record_at w.heap.records call.stage.arena).space c (op_for w.heap call o)).reply) (sym is) (sym busy ∙ told)))
+    (sym (subst (λ (o : Op). replies.Busy held flights threads ≡ (step_of (record_at w.heap.records call.stage.arena).space c (op_for w.heap call o)).reply) (sym is) (sym busy ∙ told)))
     (subst (IsMetBy (record_at w.heap.records call.stage.arena).space c) (sym is) met)
 used_not w c call op asked point reply held flights threads busy empties wants told met = absurd (grind arith)
 

@@ -1,6 +1,6 @@
 -- The points to which a request leads, and the replies at which its call ends there.
 use Rattle.replay_run.proofs.Words.{◌≡◌, ℕ, true, false, Option, None, Some, arith, nat_tests, Reply, DeskFacts, Item, Replied, Request, Span, Why, Answered, BadAnswer, NotHeld, NoSuchArena, TurnPoint, Filling, Looking, Owning, AskPoint, Point, Turns, Asks, Tells, Next, Go, InArena, NextBatch, NotLive, Ends, begin_stage, settle, step}
-use Rattle.space_model.specs.declared.Reply.TheVariants.{Bad, NoArena, Nothing, Busy as InUse}
+use Rattle.space_model.specs.declared.Reply.TheVariants.{Bad, NoArena, Nothing}
 use Rattle.std.specs.Prelude.{◌==◌, ◌^◌, nat_lt}
 use Rattle.std.proofs.lemmas.Bool.{cond_both}
 use Rattle.size_classes.specs.Classes.{class_for}
@@ -18,6 +18,7 @@ use Rattle.call_plan.specs.declared.points.AfterFlight.{AfterFlight}
 use Rattle.call_plan.specs.declared.points.AfterFlight.TheVariants.{Batches, Visiting, Moving}
 use Rattle.call_plan.specs.declared.points.TurnPoint.TheVariants.{Giving, Finding, Taking, Offering, Advancing, Changing, Making, Resetting, Destroying, Dooming, Publishing}
 use Rattle.replay_run.proofs.Getting.{Gets, begin_gets, step_gets}
+use Rattle.space_model.specs.declared.Reply.TheVariants as replies
 
 -- ---- the points of a request
 
@@ -363,11 +364,11 @@ Empties (Turns (Destroying cached)) = Unit {0}
 Empties point = ⊥
 
 in_use_step : (arena held flights threads : ℕ) (point : Point) (reply : Reply) → IsFrom arena (step point (Replied reply)) (Busy held flights threads) →
-    (reply ≡ InUse held flights threads) × Empties point
+    (reply ≡ replies.Busy held flights threads) × Empties point
 in_use_step arena held flights threads point reply from = grind (arith, nat_tests)
 
 pub in_use_at : (of : Request) (desk : DeskFacts) (arena held flights threads : ℕ) (point : Point) (reply : Reply) → (settle of desk arena (step point (Replied reply))).next ≡ Ends (Busy held flights threads) →
-    (reply ≡ InUse held flights threads) × Empties point
+    (reply ≡ replies.Busy held flights threads) × Empties point
 in_use_at of desk arena held flights threads point reply ends = in_use_step arena held flights threads point reply (ends_from of desk arena (step point (Replied reply)) (Busy held flights threads) tt ends)
 
 no_arena_step_reply : (arena index : ℕ) (point : Point) (reply : Reply) → IsFrom arena (step point (Replied reply)) (NoSuchArena index) → reply ≡ NoArena

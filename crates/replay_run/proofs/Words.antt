@@ -82,7 +82,7 @@ pub use Rattle.space_model.specs.declared.Op.{Op}
 pub use Rattle.space_model.specs.declared.Op.TheVariants.{Publish}
 pub use Rattle.space_model.specs.declared.Region.{Region as SpaceRegion}
 pub use Rattle.space_model.specs.declared.Reply.{Reply}
-pub use Rattle.space_model.specs.declared.Reply.TheVariants.{Noted, Took, Grow, Refused as Refuse, Grown, Landed, Regions}
+pub use Rattle.space_model.specs.declared.Reply.TheVariants.{Noted, Took, Grow, Grown, Landed, Regions}
 pub use Rattle.space_model.specs.declared.Space.{Space}
 pub use Rattle.space_model.specs.declared.Span.{Span}
 pub use Rattle.call_plan.proofs.Going.{cached_is_flat}

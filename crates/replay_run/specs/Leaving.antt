@@ -2,7 +2,6 @@
 use Rattle.std.specs.Prelude.{◌≡◌, ◌≢◌, ◌⊎◌, ℕ, ◌<◌, false, List, Option, None, Some, IfSome}
 use Rattle.space_model.specs.Clients.{is_in, without_client}
 use Rattle.space_model.specs.Outcome.{PutDown}
-use Rattle.space_model.specs.declared.Answer.TheVariants.{Refused as Refuses}
 use Rattle.space_model.specs.declared.Ask.{Ask}
 use Rattle.space_model.specs.declared.Ask.TheVariants.{Alloc, Commit, Split}
 use Rattle.space_model.specs.declared.Op.{Op}
@@ -22,6 +21,7 @@ use Rattle.heap_core.specs.Seats.{seat_at}
 use Rattle.replay_run.specs.Answers.{AllEvents, Tale, no_tales}
 use Rattle.replay_run.specs.Plays.{AllWorlds, HasSoundHeap, IsPlay, Turned, WorldEvent, after_event}
 use Rattle.replay_run.specs.World.{World, opening_world}
+use Rattle.space_model.specs.declared.Answer.TheVariants as answers
 
 -- What a turn leaves of an arena that takes a refusal in: after that of a split or a commit the extent was put down whole, in the
 -- list that it belongs to and as committed as it was, and nothing else changed; after that of an alloc nothing changed. After the
@@ -62,7 +62,7 @@ IsFruitless answer = ⊥
 -- they were, unless it gives some; of a create all as it was, unless it makes the arena; and all as it was where the call ends and
 -- nothing could be done.
 pub record Leaves (c : ℕ) (op : Op) (s t : Space) (request : Request) (asked : Option AskFacts) (reply : Reply) (answer : Option Answered) : Type 0 where
-  pub refused : (heard : AskFacts) → asked ≡ Some heard → heard.answer ≡ Refuses → RefusalLeaves c op s t heard.ask
+  pub refused : (heard : AskFacts) → asked ≡ Some heard → heard.answer ≡ answers.Refused → RefusalLeaves c op s t heard.ask
   pub malloc : IsMalloc request → GivesRegions reply ⊎ (t.regions ≡ s.regions)
   pub create : IsCreate request → (reply ≡ Noted) ⊎ (t ≡ s)
   pub fruitless : IfSome answer (λ given. IsFruitless given → t ≡ s)

@@ -6,7 +6,6 @@ use Rattle.space_model.specs.declared.Op.TheVariants.{Reset as ResetOp, Destroy 
 use Rattle.space_model.specs.Ending.{flight_count, held_count}
 use Rattle.space_model.specs.Holding.{is_published_at}
 use Rattle.space_model.specs.Step.{is_live}
-use Rattle.space_model.specs.declared.Answer.TheVariants.{Refused as Refuses}
 use Rattle.space_model.specs.declared.Reply.TheVariants.{Bad, Nothing}
 use Rattle.space_model.specs.declared.Space.{Space}
 use Rattle.space_model.specs.declared.Why.{Why}
@@ -28,6 +27,7 @@ use Rattle.heap_core.specs.Heaps.{HeapFacts}
 use Rattle.replay_run.specs.Answers.{AllEvents, Tale, answer_in, no_tales, tale_in}
 use Rattle.replay_run.specs.Plays.{AllWorlds, HasSoundHeap, IsPlay, Turned, WorldEvent}
 use Rattle.replay_run.specs.World.{World, opening_world}
+use Rattle.space_model.specs.declared.Answer.TheVariants as answers
 
 -- ---- what a turn meets
 
@@ -103,7 +103,7 @@ Serves answer = ⊥
 -- The hooks helped a request: no ask that it needed was refused, and no alloc was placed wrongly.
 pub record IsHelped (request : Request) (items : List Item) : Type 0 where
   pub granted : (wish : Wish) (earlier later : List Item) (asked : AskFacts) → IsWishOf request wish
-      → items ≡ earlier ++ Told asked ∷ later → IsNeeded wish earlier asked.ask → asked.answer ≢ Refuses
+      → items ≡ earlier ++ Told asked ∷ later → IsNeeded wish earlier asked.ask → asked.answer ≢ answers.Refused
   pub fitting : (why : Why) → Contains items (Replied (Bad why)) → ⊥
 
 -- A valid request has one of these answers. Where it uses an explicit cache, what it needed is what the request needs as it is carried

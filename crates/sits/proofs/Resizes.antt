@@ -6,7 +6,7 @@ use Rattle.space_model.proofs.Lists.{find-le-sum_by}
 use Rattle.space_model.specs.Region.{starts_at}
 use Rattle.space_model.specs.Resizing.{after_join, after_trim_done, is_large_at, large_home, reclassed, trimmed_at, widened_at}
 use Rattle.call_plan.specs.Knows.{Alone, Narrows, Widens}
-use Rattle.call_plan.specs.Words.{Split, Merge, Answer, Placed, Done, Refuses, Span}
+use Rattle.call_plan.specs.Words.{Split, Merge, Answer, Placed, Done, Span}
 use Rattle.call_plan.proofs.Getting.{alone_found}
 use Rattle.call_plan.proofs.Large.{LargeIs, one_region, resize_is}
 use Rattle.space_model.proofs.Resizes.{Home, home_found}
@@ -15,6 +15,7 @@ use Rattle.sits.proofs.Hands.{Count, Hands, Single, counts_itself}
 use Rattle.sits.proofs.Having.{Shaped, of_hand, over, reclass_over}
 use Rattle.sits.proofs.Regions.{count_at, count_sum, one_at, one_in}
 use Rattle.sits.proofs.Indexes.{at_or_else}
+use Rattle.space_model.specs.declared.Answer.TheVariants as answers
 
 -- ---- what the arena has
 
@@ -55,7 +56,7 @@ cut_resized c s desk resize Done sound is kind u e =
     let at : u ≡ trimmed_at (record s { trims = without_client c s.trims }) c (pages_at resize.class) resize.class (Some (large.region, large.part)) =
     e ∙ ap (trimmed_at (record s { trims = without_client c s.trims }) c (pages_at resize.class) resize.class) home in
     subst (λ (x : Stepped). Resized c s desk resize x.after (desk_told desk (Cutting resize) x.reply)) (sym at) (inr (is.class, large, refl, refl))
-cut_resized c s desk resize Refuses sound is kind u e = subst (λ (x : Stepped). Resized c s desk resize x.after (desk_told desk (Cutting resize) x.reply)) (sym e) (inl (refl, refl))
+cut_resized c s desk resize answers.Refused sound is kind u e = subst (λ (x : Stepped). Resized c s desk resize x.after (desk_told desk (Cutting resize) x.reply)) (sym e) (inl (refl, refl))
 cut_resized c s desk resize (Placed b zeroed first) sound is kind u e = absurd (kind first b zeroed refl)
 
 pub join_resized : (c : ℕ) (s : Space) (desk : DeskFacts) (resize : Resize) (span : Span) (answer : Answer) → Sound s → IsResize (mine c s) resize → Alone (mine c s) span true → AnswersTo (Merge (own_span resize) span) answer →
@@ -67,7 +68,7 @@ join_resized c s desk resize span Done sound is alone kind u e =
     let at : u ≡ widened_at s resize.class (Some (large.region, large.part)) (Some alone.part) =
     e ∙ ap (λ o. widened_at s resize.class o (find (is_flight_at c span) s.parts)) home ∙ ap (widened_at s resize.class (Some (large.region, large.part))) (alone_found c s span true alone) in
     subst (λ (x : Stepped). Resized c s desk resize x.after (desk_told desk (Joining resize span) x.reply)) (sym at) (inr (is.class, large, refl, refl))
-join_resized c s desk resize span Refuses sound is alone kind u e =
+join_resized c s desk resize span answers.Refused sound is alone kind u e =
     let at = e ∙ ap (whole_at s) (alone_found c s span true alone) in
     subst (λ (x : Stepped). Resized c s desk resize x.after (desk_told desk (Joining resize span) x.reply)) (sym at) (inl (refl, refl))
 join_resized c s desk resize span (Placed b zeroed first) sound is alone kind u e = absurd (kind first b zeroed refl)

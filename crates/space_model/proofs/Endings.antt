@@ -1,6 +1,6 @@
 -- What a reset, a destroy and the takes after it do.
 use Rattle.std.proofs.Common.{true, false, ◌≡◌, ◌≢◌, ℕ, Bool, not, cond, IsTrue, List, ◌∷◌, length, refl, sym, ◌∙◌, ap, subst, arith, All, filter, find, ◌&&◌, ◌==◌, []}
-use Rattle.space_model.proofs.Words.{nat_tests, sum_by, count_by, eqb-true, not-false, not-true, nil_from_length, All-weaker, All-append, All-filter, All-nil, All-head, filter_passes, Op, Reset, Destroy, DestroyTake, Reply, Noted, Nothing, Purge, Busy, Offered, Part, ToDirty, ToRetained, Life, Absent, Dying, Space, begins_at, is_active, is_flight, is_in_flight, is_listed, moved_to, turned, turned_in_order, homes, residents, is_held_by, is_held_by_other, is_dying, Stepped, stays, is_live, is_dirty_time_over, is_lazy, held_count, flight_count, if_free, emptied, after_reset, reset_stands, ended, after_destroy, doom_at, after_destroy_take, flight, Sound, IsQuiet, DestroyBusy, DestroyNoArena, DestroyNoted, DoomDoomed, DoomNothing, Outcome, ResetBusy, ResetNoArena, ResetNoted, ResetPurge}
+use Rattle.space_model.proofs.Words.{nat_tests, sum_by, count_by, eqb-true, not-false, not-true, nil_from_length, All-weaker, All-append, All-filter, All-nil, All-head, filter_passes, Op, Reset, Destroy, DestroyTake, Reply, Noted, Nothing, Purge, Busy, Offered, Part, Life, Absent, Dying, Space, begins_at, is_active, is_flight, is_in_flight, is_listed, moved_to, turned, turned_in_order, homes, residents, is_held_by, is_held_by_other, is_dying, Stepped, stays, is_live, is_dirty_time_over, is_lazy, held_count, flight_count, if_free, emptied, after_reset, reset_stands, ended, after_destroy, doom_at, after_destroy_take, flight, Sound, IsQuiet, DestroyBusy, DestroyNoArena, DestroyNoted, DoomDoomed, DoomNothing, Outcome, ResetBusy, ResetNoArena, ResetNoted, ResetPurge}
 use Rattle.space_model.proofs.Lists.{false_true, none_counted, nothing_left, nothing_sum, ones, sum_nothing, apart_count}
 use Rattle.space_model.proofs.Mixes.{mix_sum, mixed_second, mixed_filter}
 use Rattle.space_model.proofs.Settled.{Used}
@@ -9,6 +9,7 @@ use Rattle.space_model.proofs.Pieces.{both_true, not_both, active_own}
 use Rattle.space_model.proofs.Turned.{turned_does, All-turned}
 use Rattle.space_model.proofs.Outcomes.{Goes, goes, still_goes, live_goes}
 use Rattle.space_model.proofs.Moves.{live_is, Same}
+use Rattle.space_model.specs.declared.parts.Rest.TheVariants as rests
 
 -- ---- nobody else
 
@@ -52,7 +53,7 @@ emptied_does : (c cached : ℕ) (s : Space) (reply : Reply) → Sound s → is_l
 emptied_does c cached s reply sound live none same =
     let test : Part → Bool = λ p. is_active p.state in
     let t : Space = (emptied s).after in
-    turned_does {test = test} {turn = moved_to ToDirty} {left = s.regions} (record {
+    turned_does {test = test} {turn = moved_to rests.Dirty} {left = s.regions} (record {
       parts = refl;
       regions = refl;
       gone = mixed_second s.regions;
@@ -66,7 +67,7 @@ emptied_does c cached s reply sound live none same =
       frame = kept_frame c s t.parts [] sound;
       quiet = live_quiet s t (live_is s.life live) refl;
     }) sound (Reset cached) reply same.0
-    (omega (arith, nothing_sum (λ p. flight c (moved_to ToDirty p)) (filter test s.parts) (λ k d h. refl), none_active_flies c s.parts, same.1, same.2))
+    (omega (arith, nothing_sum (λ p. flight c (moved_to rests.Dirty p)) (filter test s.parts) (λ k d h. refl), none_active_flies c s.parts, same.1, same.2))
 
 pub reset_goes : (c : ℕ) (s : Space) (cached : ℕ) → Sound s → Goes c s (Reset cached) (after_reset s c cached)
 reset_goes c s cached sound =
@@ -91,24 +92,24 @@ some_count : (f : Part → ℕ) (test : Part → Bool) (parts : List Part) → s
 some_count f test parts none = omega (arith, none, mix_sum f (mixed_filter test parts))
 
 -- no extent is in flight that is retained
-still_retained : (test : Part → Bool) (parts : List Part) → ((p : Part) → not (test p) ≡ true → is_listed ToRetained p.state ≡ true) →
-    All (λ p. is_in_flight p.state ≡ false) (turned test (moved_to ToRetained) parts)
+still_retained : (test : Part → Bool) (parts : List Part) → ((p : Part) → not (test p) ≡ true → is_listed rests.Retained p.state ≡ true) →
+    All (λ p. is_in_flight p.state ≡ false) (turned test (moved_to rests.Retained) parts)
 still_retained test parts kept =
-    All-append (λ p. is_in_flight p.state ≡ false) (filter (λ p. not (test p)) parts) (turned_in_order (moved_to ToRetained) (filter test parts))
+    All-append (λ p. is_in_flight p.state ≡ false) (filter (λ p. not (test p)) parts) (turned_in_order (moved_to rests.Retained) (filter test parts))
     (All-weaker (λ p. not (test p) ≡ true) (λ p. is_in_flight p.state ≡ false) (λ p h. grind (arith, kept p h)) (filter (λ p. not (test p)) parts)
     (filter_passes (λ p. not (test p)) parts))
-    (All-turned (moved_to ToRetained) (λ p. is_in_flight p.state ≡ false) [] (filter test parts) (All-nil (λ p. is_in_flight p.state ≡ false)) (λ k d h. refl))
+    (All-turned (moved_to rests.Retained) (λ p. is_in_flight p.state ≡ false) [] (filter test parts) (All-nil (λ p. is_in_flight p.state ≡ false)) (λ k d h. refl))
 
 ended_does : (c cached : ℕ) (s : Space) → Sound s → is_live s.life ≡ true → reset_stands s c cached ≡ true → Free (held_count s c cached) (flight_count s c) (length s.bound) →
     Does c s (Destroy cached) (ended s c)
 ended_does c cached s sound live stands free =
-    let test : Part → Bool = λ p. not (is_listed ToRetained p.state) in
+    let test : Part → Bool = λ p. not (is_listed rests.Retained p.state) in
     let t : Space = (ended s c).after in
     let grounded : count_by (λ p. is_flight c p.state) s.parts ≡ 0 = none_counted (λ p. is_flight c p.state) s.parts (grind (arith, stands)) in
     let offered : count_by (λ (o : Offered). o.client == c) s.offers ≡ 0 = none_counted (λ o. o.client == c) s.offers (grind (arith, stands)) in
     let offers : s.offers ≡ [] = nothing_left (λ (o : Offered). o.client == c) s.offers offered (omega (arith, free.1)) in
     let bound : s.bound ≡ [] = nil_from_length s.bound free.2 in
-    turned_does {test = test} {turn = moved_to ToRetained} {left = s.regions} (record {
+    turned_does {test = test} {turn = moved_to rests.Retained} {left = s.regions} (record {
       parts = refl;
       regions = refl;
       gone = mixed_second s.regions;
@@ -123,7 +124,7 @@ ended_does c cached s sound live stands free =
           (λ d other. not_both d c other ∙ sym (ap (is_dying d) (live_is s.life live)));
       quiet = (refl, offers, bound, still_retained test s.parts (λ p h. not-false _ (not-true _ h)));
     }) sound (Destroy cached) Noted (λ page before. refl)
-    (omega (arith, nothing_sum (λ p. flight c (moved_to ToRetained p)) (filter test s.parts) (λ k d h. refl), some_count (flight c) test s.parts grounded))
+    (omega (arith, nothing_sum (λ p. flight c (moved_to rests.Retained p)) (filter test s.parts) (λ k d h. refl), some_count (flight c) test s.parts grounded))
 
 pub destroy_goes : (c : ℕ) (s : Space) (cached : ℕ) → Sound s → reset_stands s c cached ≡ true → Goes c s (Destroy cached) (after_destroy s c cached)
 destroy_goes c s cached sound stands =

@@ -1,6 +1,6 @@
 -- Which ways the looks, cuts, growths, commits and merges go: what each does, and what its reply tells.
 use Rattle.std.proofs.Common.{true, false, ◌≡◌, ◌≢◌, ℕ, ◌+◌, ◌-◌, ◌<◌, ◌≤◌, Bool, not, cond, List, ◌∷◌, ◌++◌, Option, Some, None, refl, sym, ◌∙◌, ap, subst, arith, find, filter, ◌&&◌, ◌==◌, ltb as nat_lt, append_assoc, inl, inr, [], leb as nat_le}
-use Rattle.space_model.proofs.Words.{nat_tests, beq, is_power_of_two, ones_le_self, count_by, option_map, eqb-true, leb-true, sum_by-cons, Ask, Alloc, Commit, Split, Merge, Answer, Done, Refuses, Placed, Heard, Op, Look, CutDone, GrowDone, CommitDone, PutLook, MergeDone, NoArena, Whole, Purge, Why, Part, Rest, Span, State, Dirty, Space, end_of, run_start, holds_run, exchanged, begins_at, is_flight, is_flight_at, is_listed, rest_of, put_down, taken_out, next_flight, fit, Stepped, stays, whole_at, is_live, if_live, is_dirty_time_over, is_lazy, joined, begins_either, found_passes, is_yes_or_no, look_at, kept_piece, other_piece, cut_at, after_cut, cut_stands, new_part, why_not, grow_unless, after_grow, grow_stands, commit_at, after_commit, commit_stands, is_like, is_right_of, is_left_of, neighbour, is_purged, put_at_rest, put_beside, put_at, join_at, apart_at, after_merge, merge_stands, both_merge, may_merge, Sound, Outcome, PutDown, Flying, NextFlies, LookTook, LookNone, CutKept, CutWhole, GrowRefused, GrowBad, GrowGrown, CommitNoted, CommitWhole, PutRight, PutLeft, PutPurge, PutNext, MergeJoined, All-cons, All-nil, Bad, IsPlaced, Noted, Refused, Reply, flight, high_piece, low_piece, ltb-true, pages_end, replaced, sum_by}
+use Rattle.space_model.proofs.Words.{nat_tests, beq, is_power_of_two, ones_le_self, count_by, option_map, eqb-true, leb-true, sum_by-cons, Ask, Alloc, Commit, Split, Merge, Answer, Done, Placed, Heard, Op, Look, CutDone, GrowDone, CommitDone, PutLook, MergeDone, NoArena, Whole, Purge, Why, Part, Rest, Span, State, Dirty, Space, end_of, run_start, holds_run, exchanged, begins_at, is_flight, is_flight_at, is_listed, rest_of, put_down, taken_out, next_flight, fit, Stepped, stays, whole_at, is_live, if_live, is_dirty_time_over, is_lazy, joined, begins_either, found_passes, is_yes_or_no, look_at, kept_piece, other_piece, cut_at, after_cut, cut_stands, new_part, why_not, grow_unless, after_grow, grow_stands, commit_at, after_commit, commit_stands, is_like, is_right_of, is_left_of, neighbour, is_purged, put_at_rest, put_beside, put_at, join_at, apart_at, after_merge, merge_stands, both_merge, may_merge, Sound, Outcome, PutDown, Flying, NextFlies, LookTook, LookNone, CutKept, CutWhole, GrowRefused, GrowBad, GrowGrown, CommitNoted, CommitWhole, PutRight, PutLeft, PutPurge, PutNext, MergeJoined, All-cons, All-nil, Bad, IsPlaced, Noted, Refused, Reply, flight, high_piece, low_piece, ltb-true, pages_end, replaced, sum_by}
 use Rattle.std.proofs.Common.{◌≡◌, ℕ, ◌+◌, ◌-◌, ◌<◌, ◌≤◌, Bool, true, false, not, cond, List, ◌∷◌, ◌++◌, Option, Some, None, refl, sym, ◌∙◌, ap, subst, arith, filter, find, ◌==◌, append_assoc, count_ones}
 use Rattle.space_model.proofs.Lists.{false_true, find_passes, ones}
 use Rattle.space_model.proofs.Pieces.{both_true, not_both, put_down-nobody, Listed, fit-listed, cut_shares, found_fits, Piece-down, Piece-low, Piece-high, Piece-joined, two_left, joined_share, fit_best, neighbour_side}
@@ -9,6 +9,7 @@ use Rattle.space_model.proofs.Changes.{Does, Piece, trade_does, replaced_does, p
 use Rattle.space_model.proofs.Exchange.{share}
 use Rattle.space_model.proofs.Growth.{why_not-free, free-holders}
 use Rattle.space_model.proofs.Found.{found_span, last_found, last_flies, find_kept, first_found}
+use Rattle.space_model.specs.declared.asks.Answer.TheVariants as answers
 
 -- a step comes to one of the ways in which its operation may go, where the space after it is sound
 abbrev pub Comes : ℕ → Space → Op → Stepped → Type 0
@@ -125,8 +126,8 @@ cut_goes c s heard keep_low (Split span left) Done is sound live h =
     let both = both_true (nat_lt 0 left) (nat_lt left span.pages) whole.0 in
     on_found (λ o. Goes c s (CutDone heard keep_low) (cut_at s keep_low left o)) (λ _. true) (find (is_flight_at c span) s.parts) whole.1
     (λ p e _. cut_at_goes c s heard keep_low span left p is e sound live (ltb-true _ _ both.0) (ltb-true _ _ both.1))
-cut_goes c s heard keep_low (Split span left) Refuses is sound live h =
-    whole_goes c s (CutDone heard keep_low) span sound live (both_true (is_yes_or_no Refuses && nat_lt 0 left && nat_lt left span.pages) _ h).1 (λ page before. refl, refl, refl) (λ t. CutWhole span left is)
+cut_goes c s heard keep_low (Split span left) answers.Refused is sound live h =
+    whole_goes c s (CutDone heard keep_low) span sound live (both_true (is_yes_or_no answers.Refused && nat_lt 0 left && nat_lt left span.pages) _ h).1 (λ page before. refl, refl, refl) (λ t. CutWhole span left is)
 cut_goes c s heard keep_low ask answer is sound live h = absurd (cc)
 
 -- ---- GrowDone
@@ -152,7 +153,7 @@ grow_unless_goes c s heard found span b at align commit None is e sound live som
 
 pub grow_goes : (c : ℕ) (s : Space) (heard : Heard) (found : Option ℕ) (ask : Ask) (answer : Answer) → heard.ask ≡ ask → Sound s → is_live s.life ≡ true →
     grow_stands s c ask answer ≡ true → Goes c s (GrowDone heard found) (after_grow s c found ask answer)
-grow_goes c s heard found (Alloc commit at pages align) Refuses is sound live h =
+grow_goes c s heard found (Alloc commit at pages align) answers.Refused is sound live h =
     still_goes c s (GrowDone heard found) Refused sound (λ page before. refl, refl, refl) (GrowRefused refl)
 grow_goes c s heard found (Alloc commit at pages align) (Placed b zeroed first) is sound live h =
     let within = both_true (nat_lt 0 pages && is_power_of_two align) _ h in
@@ -176,7 +177,7 @@ commit_goes c s heard (Commit span) Done is sound live h =
     let fits : Piece c q = record { idle = at.piece.idle; fits = record { placed = at.piece.fits.placed; backed = λ h. refl }; own = at.piece.own } in
     goes sound (put_does c s (CommitDone heard) Noted (is_flight_at c span) p q sound at.live e at.piece fits refl (λ page before. refl) refl)
     (λ after. CommitNoted span is (subst (λ (k : Span). Flying c (commit_at s (Some p)).after k true) (found_span c span s.parts p e).0 (put_flies c s p q after at.own))))
-commit_goes c s heard (Commit span) Refuses is sound live h =
+commit_goes c s heard (Commit span) answers.Refused is sound live h =
     whole_goes c s (CommitDone heard) span sound live (any_found (λ p. not p.committed) (find (is_flight_at c span) s.parts) h) (λ page before. refl, refl, refl) (λ t. CommitWhole span is)
 commit_goes c s heard ask answer is sound live h = absurd (cc)
 
@@ -333,8 +334,8 @@ merge_goes c s heard own_low (Merge low high) Done sound live h =
     let both = both_true (is_yes_or_no Done && end_of low == high.first) _ h in
     on_both (λ o u. Goes c s (MergeDone heard own_low) (join_at s o u)) (find (is_flight_at c low) s.parts) (find (is_flight_at c high) s.parts) both.1
     (λ p q e f. join_goes c s heard own_low low high p q e f sound live (eqb-true _ _ both.0))
-merge_goes c s heard own_low (Merge low high) Refuses sound live h =
-    let both = both_true (is_yes_or_no Refuses && end_of low == high.first) _ h in
+merge_goes c s heard own_low (Merge low high) answers.Refused sound live h =
+    let both = both_true (is_yes_or_no answers.Refused && end_of low == high.first) _ h in
     let side : end_of low ≡ high.first = eqb-true _ _ both.0 in
     on_both (λ o u. Goes c s (MergeDone heard own_low) (apart_at s own_low o u)) (find (is_flight_at c low) s.parts) (find (is_flight_at c high) s.parts) both.1
     (λ p q e f. let at = flight_at c s low p sound live e in apart_goes c s heard own_low own_low low high p q e f sound live (λ m. absurd (omega (arith, m, side, at.pages, at.piece.fits.placed.0))))

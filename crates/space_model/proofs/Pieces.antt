@@ -1,9 +1,10 @@
 -- What the states of extents say, and the pieces that operations put in their place.
 use Rattle.std.proofs.Common.{◌≡◌, ℕ, ◌+◌, ◌<◌, ◌≢◌, Bool, true, false, IsTrue, List, [], ◌∷◌, Some, None, refl, arith, find, filter, ◌&&◌, eqb, ◌⊎◌, cond, ◌==◌, nat_lt, inl, inr, eqb-true, ltb-true}
-use Rattle.space_model.proofs.Words.{sum_by, sum_by-cons, nat_tests, Part, Rest, ToDirty, ToMuzzy, ToRetained, State, Space, Region, IsPlaced, end_of, is_active, is_listed, is_flight, is_backed, rest_of, listed, taken_out, put_down, begins_at, fit, fit_of, is_best, is_candidate, low_piece, high_piece, joined, begins_either, neighbour, is_right_of, is_left_of, Sound, is_held_by, is_live}
+use Rattle.space_model.proofs.Words.{sum_by, sum_by-cons, nat_tests, Part, Rest, State, Space, Region, IsPlaced, end_of, is_active, is_listed, is_flight, is_backed, rest_of, listed, taken_out, put_down, begins_at, fit, fit_of, is_best, is_candidate, low_piece, high_piece, joined, begins_either, neighbour, is_right_of, is_left_of, Sound, is_held_by, is_live}
 use Rattle.space_model.proofs.Lists.{find_has, find_passes, sum_by-either, either_found, if_found}
 use Rattle.space_model.proofs.Exchange.{share}
 use Rattle.space_model.proofs.Changes.{Fits, Piece, one_left}
+use Rattle.space_model.specs.declared.parts.Rest.TheVariants as rests
 
 -- the parts of a conjunction that is true
 pub both_true : (a b : Bool) → (a && b) ≡ true → (a ≡ true) × (b ≡ true)
@@ -63,8 +64,8 @@ fit_best pages align parts p e =
     let P : Type 0 = (rest : Rest) × (fit_of rest pages align parts ≡ Some p) × (is_candidate rest pages align p ≡ true) in
     let best : (rest : Rest) → fit_of rest pages align parts ≡ Some p → P =
     λ rest k. (rest, k, (both_true (is_candidate rest pages align p) _ (find_passes (is_best rest pages align parts) parts p k)).0) in
-    either_found P (fit_of ToDirty pages align parts) _ p (best ToDirty)
-    (either_found P (fit_of ToMuzzy pages align parts) (fit_of ToRetained pages align parts) p (best ToMuzzy) (best ToRetained)) e
+    either_found P (fit_of rests.Dirty pages align parts) _ p (best rests.Dirty)
+    (either_found P (fit_of rests.Muzzy pages align parts) (fit_of rests.Retained pages align parts) p (best rests.Muzzy) (best rests.Retained)) e
 
 pub fit-listed : (pages align : ℕ) (parts : List Part) (p : Part) → fit pages align parts ≡ Some p → Listed parts p
 fit-listed pages align parts p e =

@@ -1,6 +1,6 @@
 -- What the operations of a purge do and tell: an extent is taken out by age, changes its list or its commit state, is offered, or comes back.
 use Rattle.std.proofs.Common.{true, false, ◌≡◌, ◌≢◌, ℕ, ◌+◌, ◌≤◌, Bool, cond, IsTrue, List, ◌∷◌, ◌++◌, Option, Some, None, refl, ◌∙◌, ap, subst, arith, All, filter, find, suc, take, drop, ◌&&◌, ◌||◌, ◌==◌, ltb as nat_lt, append-nil, []}
-use Rattle.space_model.proofs.Words.{nat_tests, Any-from_list_any, list_any, position_or_len, is_some, All-cons, All-nil, All-append, All-take, All-drop, filter-append, Ask, Dalloc, Decommit, PurgeLazy, Answer, Done, Refuses, Heard, Op, PurgeTake, LazyDone, Offer, OfferDone, DecommitDone, Reply, Noted, Nothing, Kept, Abandoned, Offered, Part, Rest, ToDirty, ToMuzzy, ToRetained, Span, Flight as InFlight, Space, IsPlaced, meets, same_span, holders, is_listed, is_flight_at, is_backed, listed, rest_of, next_flight, pages_listed, stays, replaced, is_live, found_passes, purge_at, after_purge_take, lazy_at, after_lazy, lazy_stands, offer_of, offer_at, is_offer, without_offer, is_regranted, after_offer, offer_stands, decommit_at, after_decommit, decommit_stands, granted_by, is_in_dalloc, flight, lost, won, Sound, DecommitDid, Flying, ForcedDone, ForcedNoted, LazyDid, OfferAbandoned, OfferKept, OfferNext, OfferNoted, PurgeForced, PurgeNoArena, PurgeNothing, PurgeTaken, forced_stands, is_flight, is_purgeable, is_yes_or_no, list_any-append, taken_out}
+use Rattle.space_model.proofs.Words.{nat_tests, Any-from_list_any, list_any, position_or_len, is_some, All-cons, All-nil, All-append, All-take, All-drop, filter-append, Ask, Dalloc, Decommit, PurgeLazy, Answer, Done, Heard, Op, PurgeTake, LazyDone, Offer, OfferDone, DecommitDone, Reply, Noted, Nothing, Kept, Abandoned, Offered, Part, Rest, Span, Flight as InFlight, Space, IsPlaced, meets, same_span, holders, is_listed, is_flight_at, is_backed, listed, rest_of, next_flight, pages_listed, stays, replaced, is_live, found_passes, purge_at, after_purge_take, lazy_at, after_lazy, lazy_stands, offer_of, offer_at, is_offer, without_offer, is_regranted, after_offer, offer_stands, decommit_at, after_decommit, decommit_stands, granted_by, is_in_dalloc, flight, lost, won, Sound, DecommitDid, Flying, ForcedDone, ForcedNoted, LazyDid, OfferAbandoned, OfferKept, OfferNext, OfferNoted, PurgeForced, PurgeNoArena, PurgeNothing, PurgeTaken, forced_stands, is_flight, is_purgeable, is_yes_or_no, list_any-append, taken_out}
 use Rattle.space_model.proofs.Lists.{false_true, find_passes, ones, without_first, or_false}
 use Rattle.space_model.proofs.Exchange.{share}
 use Rattle.space_model.proofs.Growth.{nobody_holds}
@@ -10,6 +10,8 @@ use Rattle.std.proofs.Math.Bool.{or-true}
 use Rattle.space_model.proofs.Found.{found_span, last_flies, span_is}
 use Rattle.space_model.proofs.Outcomes.{Goes, goes, still_goes, live_goes, on_found, put_flies, found_flies, next_flies, belongs, beq_itself}
 use Rattle.space_model.proofs.Moves.{Flight, flight_at, live_is, itself, taken_does}
+use Rattle.space_model.specs.declared.asks.Answer.TheVariants as answers
+use Rattle.space_model.specs.declared.parts.Rest.TheVariants as rests
 
 -- ---- PurgeTake
 
@@ -43,32 +45,32 @@ turned_flight c s op reply span p q sound at fits same flies plain lose win =
     put_does c s op reply (is_flight_at c span) p q sound at.live at.found at.piece fits same plain (omega (arith, flew, flies, lose, win))
 
 -- an extent in flight to the dirty ones is committed
-dirty_committed : (c : ℕ) (s : Space) (span : Span) (p : Part) → Sound s → find (is_flight_at c span) s.parts ≡ Some p → is_listed ToDirty (listed (rest_of p.state)) ≡ true → p.committed ≡ true
+dirty_committed : (c : ℕ) (s : Space) (span : Span) (p : Part) → Sound s → find (is_flight_at c span) s.parts ≡ Some p → is_listed rests.Dirty (listed (rest_of p.state)) ≡ true → p.committed ≡ true
 dirty_committed c s span p sound e h = (found_fits s (is_flight_at c span) p sound e).backed (grind (arith, h))
 
 pub lazy_goes : (c : ℕ) (s : Space) (heard : Heard) (ask : Ask) (answer : Answer) → heard.ask ≡ ask → Sound s → is_live s.life ≡ true → lazy_stands s c ask answer ≡ true →
     Goes c s (LazyDone heard) (after_lazy s c ask answer)
 lazy_goes c s heard (PurgeLazy span) Done is sound live h =
-    on_found (λ o. Goes c s (LazyDone heard) (lazy_at s c o)) (λ p. is_listed ToDirty (listed (rest_of p.state))) (find (is_flight_at c span) s.parts) h
+    on_found (λ o. Goes c s (LazyDone heard) (lazy_at s c o)) (λ p. is_listed rests.Dirty (listed (rest_of p.state))) (find (is_flight_at c span) s.parts) h
     (λ p e k.
     let at = flight_at c s span p sound live e in
-    let q : Part = record p { state = InFlight c ToMuzzy } in
+    let q : Part = record p { state = InFlight c rests.Muzzy } in
     let t : Space = (lazy_at s c (Some p)).after in
     goes sound (turned_flight c s (LazyDone heard) _ span p q sound at
     (record { idle = refl; fits = record { placed = at.piece.fits.placed; backed = λ _. at.piece.fits.backed (grind (arith, k)) }; own = λ d other. not_both d c other })
     refl (ap ones (itself c)) (λ page before. refl) refl refl)
     (λ after. LazyDid span true is (subst (λ (k : Span). Flying c t k true) (found_span c span s.parts p e).0
     (subst (λ (b : Bool). Flying c t p.span b) (dirty_committed c s span p sound e k) (put_flies c s p q after (itself c)))) (λ k. absurd (cc))))
-lazy_goes c s heard (PurgeLazy span) Refuses is sound live h =
+lazy_goes c s heard (PurgeLazy span) answers.Refused is sound live h =
     still_goes c s (LazyDone heard) _ sound (λ page before. refl, refl, refl)
-    (LazyDid span false is (on_found (λ _. Flying c s span true) (λ p. is_listed ToDirty (listed (rest_of p.state))) (find (is_flight_at c span) s.parts) h
+    (LazyDid span false is (on_found (λ _. Flying c s span true) (λ p. is_listed rests.Dirty (listed (rest_of p.state))) (find (is_flight_at c span) s.parts) h
     (λ p e k. record { part = p; found = e; committed = dirty_committed c s span p sound e k })) (λ k. refl))
 lazy_goes c s heard ask answer is sound live h = absurd (cc)
 
 pub decommit_goes : (c : ℕ) (s : Space) (heard : Heard) (ask : Ask) (answer : Answer) → heard.ask ≡ ask → Sound s → is_live s.life ≡ true → decommit_stands s c ask answer ≡ true →
     Goes c s (DecommitDone heard) (after_decommit s c ask answer)
 decommit_goes c s heard (Decommit span) Done is sound live h =
-    on_found (λ o. Goes c s (DecommitDone heard) (decommit_at s o)) (λ p. p.committed && is_listed ToRetained (listed (rest_of p.state))) (find (is_flight_at c span) s.parts) h
+    on_found (λ o. Goes c s (DecommitDone heard) (decommit_at s o)) (λ p. p.committed && is_listed rests.Retained (listed (rest_of p.state))) (find (is_flight_at c span) s.parts) h
     (λ p e k.
     let at = flight_at c s span p sound live e in
     let q : Part = record p { committed = false } in
@@ -77,9 +79,9 @@ decommit_goes c s heard (Decommit span) Done is sound live h =
     (record { idle = at.piece.idle; fits = record { placed = at.piece.fits.placed; backed = λ b. absurd (false_true (subst IsTrue free b)) }; own = at.piece.own })
     refl (ap ones at.own) (λ page before. refl) refl refl)
     (λ after. DecommitDid span true is (subst (λ (k : Span). Flying c (decommit_at s (Some p)).after k false) (found_span c span s.parts p e).0 (put_flies c s p q after at.own)) (λ k. absurd (cc))))
-decommit_goes c s heard (Decommit span) Refuses is sound live h =
+decommit_goes c s heard (Decommit span) answers.Refused is sound live h =
     still_goes c s (DecommitDone heard) _ sound (λ page before. refl, refl, refl)
-    (DecommitDid span false is (on_found (λ _. Flying c s span true) (λ p. p.committed && is_listed ToRetained (listed (rest_of p.state))) (find (is_flight_at c span) s.parts) h
+    (DecommitDid span false is (on_found (λ _. Flying c s span true) (λ p. p.committed && is_listed rests.Retained (listed (rest_of p.state))) (find (is_flight_at c span) s.parts) h
     (λ p e k. record { part = p; found = e; committed = (both_true p.committed _ k).0 })) (λ k. refl))
 decommit_goes c s heard ask answer is sound live h = absurd (cc)
 
@@ -149,11 +151,11 @@ taken_frame c s span committed parts sound =
 kept_does : (c : ℕ) (s : Space) (heard : Heard) (found : Option ℕ) (span : Span) (committed : Bool) → heard.ask ≡ Dalloc span committed → Sound s → is_live s.life ≡ true →
     IsPlaced span → is_regranted found span s.parts ≡ false →
     Does c s (OfferDone heard found) (record {
-      after = record s { parts = s.parts ++ record { span = span; state = InFlight c ToRetained; committed = committed } ∷ []; offers = without_offer c span committed s.offers };
+      after = record s { parts = s.parts ++ record { span = span; state = InFlight c rests.Retained; committed = committed } ∷ []; offers = without_offer c span committed s.offers };
       reply = Kept;
     })
 kept_does c s heard found span committed is sound live placed fresh =
-    let p : Part = record { span = span; state = InFlight c ToRetained; committed = committed } in
+    let p : Part = record { span = span; state = InFlight c rests.Retained; committed = committed } in
     let t : Space = record s { parts = s.parts ++ p ∷ []; offers = without_offer c span committed s.offers } in
     let free : list_any (λ q. meets q.span span) s.parts ≡ false = or_false (is_some found) _ fresh in
     let most : (page : ℕ) → holders page s.parts + share page p ≤ 1 =
@@ -169,9 +171,9 @@ offer_done_goes c s heard found (Dalloc span committed) Done is sound live h =
     let t : Space = record s { offers = without_offer c span committed s.offers } in
     goes sound (frame_does c s t (OfferDone heard found) _ sound refl refl (taken_frame c s span committed s.parts sound) (live_quiet s t (live_is s.life live) refl) (λ page before. refl) refl)
     (λ after. OfferNext (next_flight c s.parts) (next_flies c t))
-offer_done_goes c s heard found (Dalloc span committed) Refuses is sound live h =
+offer_done_goes c s heard found (Dalloc span committed) answers.Refused is sound live h =
     let t : Space = record s { offers = without_offer c span committed s.offers } in
-    let p : Part = record { span = span; state = InFlight c ToRetained; committed = committed } in
+    let p : Part = record { span = span; state = InFlight c rests.Retained; committed = committed } in
     let op : Op = OfferDone heard found in
     elim (is_regranted found span s.parts) as (λ b. is_regranted found span s.parts ≡ b →
     Goes c s op (cond b (stays t (Abandoned (next_flight c s.parts))) (record { after = record t { parts = s.parts ++ p ∷ [] }; reply = Kept }))) [

@@ -1,6 +1,6 @@
 -- What the operations of a resize do: they look for pages behind a large region, join them to it, or cut some off.
 use Rattle.std.proofs.Common.{true, false, ◌≡◌, ◌≢◌, ℕ, ◌+◌, ◌-◌, ◌<◌, ◌≤◌, Bool, not, cond, List, ◌∷◌, get_or, Option, Some, None, refl, sym, ◌∙◌, ap, subst, arith, All, find, filter, ◌&&◌, ◌==◌, ltb as nat_lt, [], ◌++◌, append_assoc}
-use Rattle.space_model.proofs.Words.{nat_tests, sum_by, count_by, position_or_len, option_map, eqb-true, leb-true, sum_by-cons, All-weaker, All-cons, All-nil, pages_at, size_bounds, large_size, Ask, Merge, Split, Answer, Done, Refuses, Heard, Widen, JoinDone, TrimDone, Noted, Nothing, Whole, Part, Region, Span, Space, IsPlaced, end_of, has_page, same_span, holders, exchanged, begins_at, is_active, is_flight, is_flight_at, taken_out, rest_of, address_of, houses, homes, residents, is_held_by, starts_at, is_in, without_client, stays, is_live, is_yes_or_no, found_passes, low_piece, high_piece, joined, begins_either, flight, is_large_at, large_home, reclassed, is_spare, is_open, widen_by, widen_at, is_large_class, has_large, widened_at, after_join, join_stands, trimmed_at, after_trim_done, trim_done_stands, Sound, IsQuiet, JoinLanded, JoinWhole, TrimCut, TrimWhole, WidenNoted, WidenNothing, WidenTook, inserted, sum_by-insert}
+use Rattle.space_model.proofs.Words.{nat_tests, sum_by, count_by, position_or_len, option_map, eqb-true, leb-true, sum_by-cons, All-weaker, All-cons, All-nil, pages_at, size_bounds, large_size, Ask, Merge, Split, Answer, Done, Heard, Widen, JoinDone, TrimDone, Noted, Nothing, Whole, Part, Region, Span, Space, IsPlaced, end_of, has_page, same_span, holders, exchanged, begins_at, is_active, is_flight, is_flight_at, taken_out, rest_of, address_of, houses, homes, residents, is_held_by, starts_at, is_in, without_client, stays, is_live, is_yes_or_no, found_passes, low_piece, high_piece, joined, begins_either, flight, is_large_at, large_home, reclassed, is_spare, is_open, widen_by, widen_at, is_large_class, has_large, widened_at, after_join, join_stands, trimmed_at, after_trim_done, trim_done_stands, Sound, IsQuiet, JoinLanded, JoinWhole, TrimCut, TrimWhole, WidenNoted, WidenNothing, WidenTook, inserted, sum_by-insert}
 use Rattle.space_model.proofs.Lists.{all_sum_le, find_has, find_passes, ones, only_one, sum_nothing, counted_any}
 use Rattle.space_model.proofs.Exchange.{share}
 use Rattle.space_model.proofs.Mixes.{Mix, mix_sum, mix_first, mix_filter, mixed_first, mixed_filter, mixed_append, mixed_insert}
@@ -13,6 +13,7 @@ use Rattle.space_model.proofs.Found.{last_flies}
 use Rattle.space_model.proofs.Outcomes.{Comes, Goes, goes, still_goes, on_found, put_flies, whole_goes, any_found}
 use Rattle.space_model.proofs.Moves.{live_is, itself, flight_at, taken_does}
 use Rattle.space_model.proofs.Settings.{client_does, without_others}
+use Rattle.space_model.specs.declared.asks.Answer.TheVariants as answers
 
 -- ---- Widen
 
@@ -245,7 +246,7 @@ join_done_goes c s heard class (Merge low high) Done is sound live h =
     (λ home k. on_found (λ u. Goes c s (JoinDone heard class) (widened_at s class (Some home) u)) (λ p. p.committed) (find (is_flight_at c high) s.parts) a.1
     (λ q m _. goes sound (joined_does c s heard class low high home q k m sound live is_in.0 is_in.1 (grind (arith, nat_tests, b.0)) (grind (arith, nat_tests, b.0)) b.1)
     (joined_comes c s heard class (address_of low.first) home q k)))
-join_done_goes c s heard class (Merge low high) Refuses is sound live h =
+join_done_goes c s heard class (Merge low high) answers.Refused is sound live h =
     let a = both_true (is_large_class class && low.pages + high.pages == pages_at class && end_of low == high.first && has_large s c (address_of low.first) (λ p. same_span p.span low)) _ h in
     whole_goes c s (JoinDone heard class) high sound live (any_found (λ p. p.committed) (find (is_flight_at c high) s.parts) a.1) (λ page before. refl, refl, refl) (λ t. JoinWhole low high is)
 join_done_goes c s heard class ask answer is sound live h = absurd (cc)
@@ -338,7 +339,7 @@ trim_done_goes c s heard class (Split span left) Done sound live h =
     on_home (λ o. Goes c s (TrimDone heard class) (trimmed_at (record s { trims = without_client c s.trims }) c left class o)) (λ p. same_span p.span span) (large_home s c (address_of span.first)) a.1
     (λ home e. goes sound (trimmed_does c s heard class span left home e sound live class_is.0 class_is.1 (grind (arith, nat_tests, a.0)) (grind (arith, nat_tests, a.0)) a.1)
     (trimmed_comes c s heard class left (address_of span.first) home sound e))
-trim_done_goes c s heard class (Split span left) Refuses sound live h =
+trim_done_goes c s heard class (Split span left) answers.Refused sound live h =
     goes sound (client_does c s s.bound (without_client c s.trims) (TrimDone heard class) Whole sound live (λ d other. refl) (λ d other. without_others d c s.trims other) (λ page before. refl) refl)
     (λ after. TrimWhole refl)
 trim_done_goes c s heard class ask answer sound live h = absurd (cc)

@@ -1,11 +1,12 @@
 -- What settings, moments and trims do: nothing to extents and regions.
 use Rattle.std.proofs.Common.{true, false, ◌≡◌, ◌≢◌, ℕ, ◌+◌, ◌<◌, ◌≤◌, cond, List, ◌∷◌, ◌++◌, refl, sym, subst, arith, ℤ, pos, negsuc, ◌≤ℤ◌, All, AllPairs, rules, Some, None, ◌*◌, ◌/◌, ◌-◌, ◌&&◌, ◌==◌, ltb as nat_lt, leb as nat_le, []}
-use Rattle.space_model.proofs.Words.{list_any, eqb-true, ltb-true, leb-true, nat_tests, All-weaker, All-push, all_pairs_push, Op, Set, Trim, Advance, Reply, Noted, Nothing, Setting, DirtyMs, MuzzyMs, HookBox, Bind, Unbind, GrowLimit, MakeLive, ToDirty, ToMuzzy, Added, Pace, Space, pages_end, pages_listed, with_new, passed, passed_if_any, advanced_in, advance_all, after_advance, new_pace, stays, is_live, with_client, without_client, is_absent, made_live, after_set, is_decay_time, setting_stands, after_trim, Sound, IsPaced, lost, won, AdvanceLimits, AdvanceNoArena, SetNoArena, SetNoted, SetNothing, TrimNoted, list_any-append, with_setting}
+use Rattle.space_model.proofs.Words.{list_any, eqb-true, ltb-true, leb-true, nat_tests, All-weaker, All-push, all_pairs_push, Op, Set, Trim, Advance, Reply, Noted, Nothing, Setting, DirtyMs, MuzzyMs, HookBox, Bind, Unbind, GrowLimit, MakeLive, Added, Pace, Space, pages_end, pages_listed, with_new, passed, passed_if_any, advanced_in, advance_all, after_advance, new_pace, stays, is_live, with_client, without_client, is_absent, made_live, after_set, is_decay_time, setting_stands, after_trim, Sound, IsPaced, lost, won, AdvanceLimits, AdvanceNoArena, SetNoArena, SetNoted, SetNothing, TrimNoted, list_any-append, with_setting}
 use Rattle.space_model.proofs.Sums.{listed_fit_space}
 use Rattle.space_model.proofs.Changes.{Does, Plain, Ranges, frame_does, own_frame, range_frame, sound_ranges, live_quiet, kept_frame}
 use Rattle.space_model.proofs.Pieces.{both_true}
 use Rattle.space_model.proofs.Moves.{live_is}
 use Rattle.space_model.proofs.Outcomes.{Goes, goes, still_goes, live_goes}
+use Rattle.space_model.specs.declared.parts.Rest.TheVariants as rests
 
 -- a new pace of a decay time is in range
 pub new_paced : (ms : ℤ) (now : ℕ) → is_decay_time ms ≡ true → IsPaced (new_pace ms now)
@@ -157,8 +158,8 @@ advance_goes c s now sound =
     live_goes c s (Advance now) _ sound (λ page before. refl, refl, refl) (λ h. AdvanceNoArena h refl)
     (λ live. goes sound (frame_does c s t (Advance now) _ sound refl refl (range_frame c s t sound (record {
       box = sound.box;
-      dirty = advanced_paced s.dirty s.dirty.ms now (pages_listed ToDirty s.parts) refl sound.dirty (listed_fit_space ToDirty s sound);
-      muzzy = advanced_paced s.muzzy s.muzzy.ms now (pages_listed ToMuzzy s.parts) refl sound.muzzy (listed_fit_space ToMuzzy s sound);
+      dirty = advanced_paced s.dirty s.dirty.ms now (pages_listed rests.Dirty s.parts) refl sound.dirty (listed_fit_space rests.Dirty s sound);
+      muzzy = advanced_paced s.muzzy s.muzzy.ms now (pages_listed rests.Muzzy s.parts) refl sound.muzzy (listed_fit_space rests.Muzzy s sound);
       grow = sound.grow;
       grow_limit = sound.grow_limit;
     }) refl refl refl refl) (live_quiet s t (live_is s.life live) refl) (λ page before. refl) refl) (λ after. AdvanceLimits _ _))

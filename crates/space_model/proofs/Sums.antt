@@ -1,10 +1,11 @@
 -- Sums of bytes: how those of the states add up, and that none is more than the space.
 use Rattle.std.proofs.Common.{◌-◌, ◌<◌, ◌≡◌, ℕ, ◌+◌, ◌*◌, ◌^◌, ◌≤◌, Bool, false, cond, List, [], ◌∷◌, refl, arith, All}
-use Rattle.space_model.proofs.Words.{sum_by, sum_by-cons, sum_by-le-sum_by, All-weaker, All-head, All-tail, All-cons, nat_tests, size_at, Part, Region, Rest, ToDirty, ToMuzzy, ToRetained, State, Retained, Space, IsPlaced, pages_end, holders, is_active, is_listed, pages_listed, homes, Sound, is_in_flight, bytes_of, bytes_where, region_bytes, region_bytes_where, is_mapped, BytesFitSpace}
+use Rattle.space_model.proofs.Words.{sum_by, sum_by-cons, sum_by-le-sum_by, All-weaker, All-head, All-tail, All-cons, nat_tests, size_at, Part, Region, Rest, State, Retained, Space, IsPlaced, pages_end, holders, is_active, is_listed, pages_listed, homes, Sound, is_in_flight, bytes_of, bytes_where, region_bytes, region_bytes_where, is_mapped, BytesFitSpace}
 use Rattle.space_model.proofs.Lists.{nothing_sum}
 use Rattle.space_model.proofs.Exchange.{share}
 use Rattle.space_model.proofs.Intervals.{lengths-le}
 use Rattle.space_model.proofs.Settled.{serves}
+use Rattle.space_model.specs.declared.parts.Rest.TheVariants as rests
 
 -- the bytes of an extent whose state passes, or none
 abbrev bytes_if : (State → Bool) → Part → ℕ
@@ -12,24 +13,24 @@ bytes_if test p = cond (test p.state) (bytes_of p) 0
 
 -- the bytes of mapped extents are those of the four uses
 pub mapped_sum : (parts : List Part) → bytes_where is_mapped parts
-    ≡ bytes_where is_active parts + bytes_where (is_listed ToDirty) parts + bytes_where (is_listed ToMuzzy) parts + bytes_where is_in_flight parts
+    ≡ bytes_where is_active parts + bytes_where (is_listed rests.Dirty) parts + bytes_where (is_listed rests.Muzzy) parts + bytes_where is_in_flight parts
 mapped_sum [] = refl
 mapped_sum (p ∷ ps) =
     grind (
       arith,
       sum_by-cons (bytes_if is_mapped) p ps,
       sum_by-cons (bytes_if is_active) p ps,
-      sum_by-cons (bytes_if (is_listed ToDirty)) p ps,
-      sum_by-cons (bytes_if (is_listed ToMuzzy)) p ps,
+      sum_by-cons (bytes_if (is_listed rests.Dirty)) p ps,
+      sum_by-cons (bytes_if (is_listed rests.Muzzy)) p ps,
       sum_by-cons (bytes_if is_in_flight) p ps,
       mapped_sum ps,
     )
 
 -- all bytes are those of mapped extents and of retained ones
-pub whole_sum : (parts : List Part) → sum_by bytes_of parts ≡ bytes_where is_mapped parts + bytes_where (is_listed ToRetained) parts
+pub whole_sum : (parts : List Part) → sum_by bytes_of parts ≡ bytes_where is_mapped parts + bytes_where (is_listed rests.Retained) parts
 whole_sum [] = refl
 whole_sum (p ∷ ps) =
-    grind (arith, sum_by-cons bytes_of p ps, sum_by-cons (bytes_if is_mapped) p ps, sum_by-cons (bytes_if (is_listed ToRetained)) p ps, whole_sum ps)
+    grind (arith, sum_by-cons bytes_of p ps, sum_by-cons (bytes_if is_mapped) p ps, sum_by-cons (bytes_if (is_listed rests.Retained)) p ps, whole_sum ps)
 
 -- bytes are 4096 times pages
 pub bytes_pages : (parts : List Part) → sum_by bytes_of parts ≡ 4096 * sum_by (λ p. p.span.pages) parts

@@ -19,7 +19,7 @@ pub use Rattle.std.proofs.lemmas.Map.Steps.{length-le_from_distinct_below}
 pub use Rattle.std.proofs.lemmas.Nat.{row_fits, mul-mod_first, ones_le_self}
 pub use Rattle.size_classes.proofs.Table.{size_bounds, slab_filled, passes_below, at, large_size, align_divides}
 pub use Rattle.size_classes.specs.Classes.{size_at, pages_at, regions_at, align_at}
-pub use Rattle.space_model.specs.Types.{Ask, Split, Merge, Dalloc, Decommit, PurgeLazy, PurgeForced, Answer, Done, Refuses, Heard, Op, Look, CutDone, GrowDone, CommitDone, Land, Back, PutLook, MergeDone, Fill, Advance, PurgeTake, LazyDone, Offer, OfferDone, DecommitDone, ForcedDone, Publish, TakeOver, Reset, Destroy, DestroyTake, Counts, Set, Widen, JoinDone, Trim, TrimDone, Noted, Nothing, Purge, Busy, Abandoned, Kept, Setting, MakeLive, Part, Region, Rest, ToDirty, ToMuzzy, ToRetained, Span, Flight, Space, Offered, Reply, Life, Live, Pace, Added, State, Active, Retained, Absent, Dying, Landed, OffSpace, Unaligned, Meets, Entry, NoArena, Whole, Alloc, Commit, Placed, Why, Dirty, Muzzy, DirtyMs, MuzzyMs, HookBox, Bind, Unbind, GrowLimit, Refused, Bad, Counted}
+pub use Rattle.space_model.specs.Types.{Ask, Split, Merge, Dalloc, Decommit, PurgeLazy, PurgeForced, Answer, Done, Heard, Op, Look, CutDone, GrowDone, CommitDone, Land, Back, PutLook, MergeDone, Fill, Advance, PurgeTake, LazyDone, Offer, OfferDone, DecommitDone, ForcedDone, Publish, TakeOver, Reset, Destroy, DestroyTake, Counts, Set, Widen, JoinDone, Trim, TrimDone, Noted, Nothing, Purge, Busy, Abandoned, Kept, Setting, MakeLive, Part, Region, Rest, Span, Flight, Space, Offered, Reply, Life, Live, Pace, Added, State, Active, Retained, Absent, Dying, Landed, OffSpace, Unaligned, Meets, Entry, NoArena, Whole, Alloc, Commit, Placed, Why, Dirty, Muzzy, DirtyMs, MuzzyMs, HookBox, Bind, Unbind, GrowLimit, Refused, Bad, Counted}
 pub use Rattle.space_model.specs.Clients.{is_in, with_client, without_client, IsRoster}
 pub use Rattle.space_model.specs.Counts.{bytes_of, bytes_where, region_bytes, region_bytes_where, is_mapped, regions_by_class}
 pub use Rattle.space_model.specs.Ending.{held_count, flight_count, if_free, emptied, after_reset, ended, after_destroy, doom_at, reset_stands, after_destroy_take}

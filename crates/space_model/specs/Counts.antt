@@ -2,10 +2,11 @@
 use Rattle.std.specs.Prelude.{ℕ, ◌+◌, ◌*◌, Bool, not, ◌==◌, nat_lt, List, map, count_by, if◌then◌else◌}
 use Rattle.std.specs.List.{range_with_len, sum_by}
 use Rattle.size_classes.specs.Classes.{size_at}
-use Rattle.space_model.specs.Types.{Part, Region, ToDirty, ToMuzzy, ToRetained, State, Space}
+use Rattle.space_model.specs.Types.{Part, Region, State, Space}
 use Rattle.space_model.specs.declared.counts.Counts.{Counts}
 use Rattle.space_model.specs.Part.{is_active, is_in_flight, is_listed}
 use Rattle.space_model.specs.Region.{is_slab}
+use Rattle.space_model.specs.declared.parts.Rest.TheVariants as rests
 
 -- the bytes of an extent
 abbrev pub bytes_of : Part → ℕ
@@ -34,16 +35,16 @@ slabs_by_class regions parts = map (λ class. count_by (is_slab class regions) p
 
 -- whether an extent in the state is mapped: each is but a retained one
 abbrev pub is_mapped : State → Bool
-is_mapped state = not (is_listed ToRetained state)
+is_mapped state = not (is_listed rests.Retained state)
 
 -- the counts: offers count nowhere
 abbrev pub counts_of : Space → Counts
 counts_of s = record {
   allocated = region_bytes s.regions;
   active = bytes_where is_active s.parts;
-  dirty = bytes_where (is_listed ToDirty) s.parts;
-  muzzy = bytes_where (is_listed ToMuzzy) s.parts;
-  retained = bytes_where (is_listed ToRetained) s.parts;
+  dirty = bytes_where (is_listed rests.Dirty) s.parts;
+  muzzy = bytes_where (is_listed rests.Muzzy) s.parts;
+  retained = bytes_where (is_listed rests.Retained) s.parts;
   flight = bytes_where is_in_flight s.parts;
   mapped = bytes_where is_mapped s.parts;
   small = region_bytes_where (λ class. nat_lt class 36) s.regions;

@@ -1,10 +1,11 @@
 -- How an arena is emptied and ended: no other client may have anything in it, nor the caller anything in its cache.
 use Rattle.std.specs.Prelude.{ℕ, ◌+◌, Bool, ◌==◌, ◌&&◌, not, nat_le, List, [], ◌∷◌, length, count_by, if◌then◌else◌}
 use Rattle.std.specs.List.{list_any}
-use Rattle.space_model.specs.Types.{Reply, Noted, Nothing, Purge, Busy, Doomed, Part, ToDirty, ToRetained, Absent, Dying, Space}
+use Rattle.space_model.specs.Types.{Reply, Noted, Nothing, Purge, Busy, Doomed, Part, Absent, Dying, Space}
 use Rattle.space_model.specs.Part.{is_active, is_flight, is_in_flight, is_listed, moved_to, turned}
 use Rattle.space_model.specs.Region.{is_held_by, is_held_by_other}
 use Rattle.space_model.specs.Stepped.{Stepped, stays, replaced, if_live, is_dirty_time_over, is_lazy}
+use Rattle.space_model.specs.declared.parts.Rest.TheVariants as rests
 
 -- how many regions others hold or the client has cached
 abbrev pub held_count : Space → ℕ → ℕ → ℕ
@@ -30,7 +31,7 @@ reset_reply space = if is_dirty_time_over space then Purge (is_lazy space) else 
 -- all regions go, and each extent that served them is dirty
 abbrev pub emptied : Space → Stepped
 emptied space = record {
-  after = record space { parts = turned (λ p. is_active p.state) (moved_to ToDirty) space.parts; regions = [] };
+  after = record space { parts = turned (λ p. is_active p.state) (moved_to rests.Dirty) space.parts; regions = [] };
   reply = reset_reply space;
 }
 
@@ -53,7 +54,7 @@ abbrev pub ended : Space → ℕ → Stepped
 ended space c = record {
   after = record space {
     life = Dying c;
-    parts = turned (λ p. not (is_listed ToRetained p.state)) (moved_to ToRetained) space.parts;
+    parts = turned (λ p. not (is_listed rests.Retained p.state)) (moved_to rests.Retained) space.parts;
     regions = [];
   };
   reply = Noted;

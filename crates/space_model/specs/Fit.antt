@@ -2,9 +2,10 @@
 use Rattle.std.specs.Prelude.{ℕ, Bool, ◌==◌, ◌&&◌, ◌||◌, not, List, nat_lt, Option, find}
 use Rattle.std.specs.List.{list_any}
 use Rattle.std.specs.Option.{option_or}
-use Rattle.space_model.specs.Types.{Part, Rest, ToDirty, ToMuzzy, ToRetained}
+use Rattle.space_model.specs.Types.{Part, Rest}
 use Rattle.space_model.specs.Span.{holds_run}
 use Rattle.space_model.specs.Part.{is_listed}
+use Rattle.space_model.specs.declared.parts.Rest.TheVariants as rests
 
 -- whether the extent is listed among those of the rest and holds the run
 abbrev pub is_candidate : Rest → ℕ → ℕ → Part → Bool
@@ -27,4 +28,4 @@ fit_of rest pages align parts = find (is_best rest pages align parts) parts
 -- the extent that serves the request: a dirty one if any fits, else a muzzy one, else a retained one
 abbrev pub fit : ℕ → ℕ → List Part → Option Part
 fit pages align parts =
-    option_or (fit_of ToDirty pages align parts) (option_or (fit_of ToMuzzy pages align parts) (fit_of ToRetained pages align parts))
+    option_or (fit_of rests.Dirty pages align parts) (option_or (fit_of rests.Muzzy pages align parts) (fit_of rests.Retained pages align parts))

@@ -1,9 +1,10 @@
 -- How a decay goes: how much of an addition is left after so many epochs, how many pages may stay, and what a moment changes.
 use Rattle.std.specs.Prelude.{ℕ, ◌+◌, ◌-◌, ◌*◌, ◌/◌, ◌^◌, min, ◌==◌, nat_lt, List, [], ◌∷◌, ◌++◌, filter, ℤ, pos, negsuc, Option, None, Some, if◌then◌else◌}
 use Rattle.std.specs.List.{sum_by}
-use Rattle.space_model.specs.Types.{Limits, ToDirty, ToMuzzy, Added, Pace, Space}
+use Rattle.space_model.specs.Types.{Limits, Added, Pace, Space}
 use Rattle.space_model.specs.Part.{pages_listed}
 use Rattle.space_model.specs.Stepped.{Stepped, if_live}
+use Rattle.space_model.specs.declared.parts.Rest.TheVariants as rests
 
 -- How much of 2 ^ 24 an addition weighs while so many epochs are left to it, from 1 to 200: smootherstep, rounded down.
 unfoldable pub weight : ℕ → ℕ
@@ -63,8 +64,8 @@ advanced pace now current = advanced_in pace.ms pace now current
 -- both decays of an arena go on to a moment
 abbrev pub advance_all : Space → ℕ → Stepped
 advance_all space now =
-    let dirty = advanced space.dirty now (pages_listed ToDirty space.parts) in
-    let muzzy = advanced space.muzzy now (pages_listed ToMuzzy space.parts) in
+    let dirty = advanced space.dirty now (pages_listed rests.Dirty space.parts) in
+    let muzzy = advanced space.muzzy now (pages_listed rests.Muzzy space.parts) in
     record { after = record space { dirty = dirty.pace; muzzy = muzzy.pace }; reply = Limits dirty.limit muzzy.limit }
 
 -- tells both decays what time it is

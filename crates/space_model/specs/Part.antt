@@ -2,8 +2,9 @@
 use Rattle.std.specs.Prelude.{ℕ, Bool, true, false, ◌==◌, ◌&&◌, not, nat_lt, List, [], ◌++◌, fold, find, count_by, Option, if◌then◌else◌}
 use Rattle.std.specs.List.{filter, insert, position_or_len, sum_by}
 use Rattle.std.specs.Option.{option_map}
-use Rattle.space_model.specs.Types.{Span, Part, Rest, ToDirty, ToMuzzy, ToRetained, State, Active, Dirty, Muzzy, Retained, Flight}
+use Rattle.space_model.specs.Types.{Span, Part, Rest, State, Active, Dirty, Muzzy, Retained, Flight}
 use Rattle.space_model.specs.Span.{has_page, same_span}
+use Rattle.space_model.specs.declared.parts.Rest.TheVariants as rests
 
 -- whether the state is that of an extent which serves regions
 abbrev pub is_active : State → Bool
@@ -12,9 +13,9 @@ is_active state = false
 
 -- whether an extent in the state is listed among those of a rest
 abbrev pub is_listed : Rest → State → Bool
-is_listed ToDirty Dirty = true
-is_listed ToMuzzy Muzzy = true
-is_listed ToRetained Retained = true
+is_listed rests.Dirty Dirty = true
+is_listed rests.Muzzy Muzzy = true
+is_listed rests.Retained Retained = true
 is_listed rest state = false
 
 -- whether an extent in the state is in one of the three lists
@@ -35,21 +36,21 @@ is_flight client state = false
 
 -- where an extent in the state belongs when it is put down
 abbrev pub rest_of : State → Rest
-rest_of Active = ToDirty
-rest_of Dirty = ToDirty
-rest_of Muzzy = ToMuzzy
-rest_of Retained = ToRetained
+rest_of Active = rests.Dirty
+rest_of Dirty = rests.Dirty
+rest_of Muzzy = rests.Muzzy
+rest_of Retained = rests.Retained
 rest_of (Flight c rest) = rest
 
 -- the state of an extent that is listed among those of a rest
 abbrev pub listed : Rest → State
-listed ToDirty = Dirty
-listed ToMuzzy = Muzzy
-listed ToRetained = Retained
+listed rests.Dirty = Dirty
+listed rests.Muzzy = Muzzy
+listed rests.Retained = Retained
 
 -- whether extents that belong there are committed, always
 abbrev pub is_backed : Rest → Bool
-is_backed ToRetained = false
+is_backed rests.Retained = false
 is_backed rest = true
 
 -- an extent that the client takes out of its list

@@ -2,10 +2,12 @@
 use Rattle.std.specs.Prelude.{ℕ, Bool, true, false, ◌==◌, ◌&&◌, ◌||◌, nat_lt, List, [], ◌∷◌, ◌++◌, find, count_by, Option, None, Some, is_some, if◌then◌else◌}
 use Rattle.std.specs.Bool.{beq}
 use Rattle.std.specs.List.{list_any, position_or_len, remove}
-use Rattle.space_model.specs.Types.{Ask, Dalloc, Decommit, PurgeLazy, PurgeForced, Answer, Done, Refuses, Noted, Nothing, Next, Taken, Lazy, Kept, Abandoned, Decommitted, Offered, Part, Rest, ToDirty, ToMuzzy, ToRetained, Span, Flight, Space}
+use Rattle.space_model.specs.Types.{Ask, Dalloc, Decommit, PurgeLazy, PurgeForced, Answer, Done, Noted, Nothing, Next, Taken, Lazy, Kept, Abandoned, Decommitted, Offered, Part, Rest, Span, Flight, Space}
 use Rattle.space_model.specs.Span.{same_span, meets}
 use Rattle.space_model.specs.Part.{exchanged, begins_at, is_listed, is_flight_at, listed, rest_of, taken_out, next_flight, pages_listed}
 use Rattle.space_model.specs.Stepped.{Stepped, stays, replaced, if_live, is_lazy, has_flight, is_yes_or_no}
+use Rattle.space_model.specs.declared.asks.Answer.TheVariants as answers
+use Rattle.space_model.specs.declared.parts.Rest.TheVariants as rests
 
 -- ---- PurgeTake
 
@@ -18,7 +20,7 @@ abbrev pub purge_at : Space → ℕ → Rest → Option Part → Stepped
 purge_at space c rest None = stays space Nothing
 purge_at space c rest (Some p) =
     replaced space p (taken_out c p ∷ [])
-    (Taken p.span (is_listed rest (listed ToDirty) && is_lazy space) (count_listed rest space.parts))
+    (Taken p.span (is_listed rest (listed rests.Dirty) && is_lazy space) (count_listed rest space.parts))
 
 -- takes the oldest extent of the rest out, where more pages are listed than may stay
 abbrev pub after_purge_take : Space → ℕ → Rest → ℕ → Stepped
@@ -29,27 +31,27 @@ after_purge_take space c rest keep =
 
 -- whether extents of the rest can be purged
 abbrev pub is_purgeable : Rest → Bool
-is_purgeable ToDirty = true
-is_purgeable ToMuzzy = true
-is_purgeable ToRetained = false
+is_purgeable rests.Dirty = true
+is_purgeable rests.Muzzy = true
+is_purgeable rests.Retained = false
 
 -- ---- LazyDone
 
 -- the extent belongs to the muzzy ones from now on
 abbrev pub lazy_at : Space → ℕ → Option Part → Stepped
 lazy_at space c None = stays space Noted
-lazy_at space c (Some p) = replaced space p (record p { state = Flight c ToMuzzy } ∷ []) (Lazy true)
+lazy_at space c (Some p) = replaced space p (record p { state = Flight c rests.Muzzy } ∷ []) (Lazy true)
 
 -- takes in the answer to a lazy purge
 abbrev pub after_lazy : Space → ℕ → Ask → Answer → Stepped
 after_lazy space c (PurgeLazy span) Done = lazy_at space c (find (is_flight_at c span) space.parts)
-after_lazy space c (PurgeLazy span) Refuses = stays space (Lazy false)
+after_lazy space c (PurgeLazy span) answers.Refused = stays space (Lazy false)
 after_lazy space c ask answer = stays space Noted
 
 -- whether the answer to a lazy purge may be taken in: the extent belongs to the dirty ones
 abbrev pub lazy_stands : Space → ℕ → Ask → Answer → Bool
 lazy_stands space c (PurgeLazy span) answer =
-    is_yes_or_no answer && has_flight space c span (λ p. is_listed ToDirty (listed (rest_of p.state)))
+    is_yes_or_no answer && has_flight space c span (λ p. is_listed rests.Dirty (listed (rest_of p.state)))
 lazy_stands space c ask answer = false
 
 -- ---- Offer
@@ -89,7 +91,7 @@ keep_offer space c found span committed =
     if is_regranted found span space.parts then stays space (Abandoned (next_flight c space.parts))
     else record {
       after = record space {
-        parts = space.parts ++ record { span = span; state = Flight c ToRetained; committed = committed } ∷ [];
+        parts = space.parts ++ record { span = span; state = Flight c rests.Retained; committed = committed } ∷ [];
       };
       reply = Kept;
     }
@@ -98,7 +100,7 @@ keep_offer space c found span committed =
 abbrev pub after_offer : Space → ℕ → Option ℕ → Ask → Answer → Stepped
 after_offer space c found (Dalloc span committed) Done =
     stays (record space { offers = without_offer c span committed space.offers }) (Next (next_flight c space.parts))
-after_offer space c found (Dalloc span committed) Refuses =
+after_offer space c found (Dalloc span committed) answers.Refused =
     keep_offer (record space { offers = without_offer c span committed space.offers }) c found span committed
 after_offer space c found ask answer = stays space Noted
 
@@ -118,14 +120,14 @@ decommit_at space (Some p) = replaced space p (record p { committed = false } �
 -- takes in the answer to a decommit
 abbrev pub after_decommit : Space → ℕ → Ask → Answer → Stepped
 after_decommit space c (Decommit span) Done = decommit_at space (find (is_flight_at c span) space.parts)
-after_decommit space c (Decommit span) Refuses = stays space (Decommitted false)
+after_decommit space c (Decommit span) answers.Refused = stays space (Decommitted false)
 after_decommit space c ask answer = stays space Noted
 
 -- whether the answer to a decommit may be taken in: the extent is committed, and belongs to the retained ones
 abbrev pub decommit_stands : Space → ℕ → Ask → Answer → Bool
 decommit_stands space c (Decommit span) answer =
     is_yes_or_no answer
-    && has_flight space c span (λ p. p.committed && is_listed ToRetained (listed (rest_of p.state)))
+    && has_flight space c span (λ p. p.committed && is_listed rests.Retained (listed (rest_of p.state)))
 decommit_stands space c ask answer = false
 
 -- ---- ForcedDone

@@ -3,12 +3,13 @@ use Rattle.std.specs.Prelude.{ℕ, ◌+◌, ◌-◌, ◌%◌, Bool, false, ◌==
 use Rattle.std.specs.List.{list_any}
 use Rattle.std.specs.Option.{option_and_then, option_map}
 use Rattle.size_classes.specs.Classes.{pages_at}
-use Rattle.space_model.specs.Types.{Ask, Split, Merge, Answer, Done, Refuses, Noted, Nothing, Took, Landed, Cut, Whole, Part, Region, Space}
+use Rattle.space_model.specs.Types.{Ask, Split, Merge, Answer, Done, Noted, Nothing, Took, Landed, Cut, Whole, Part, Region, Space}
 use Rattle.space_model.specs.Span.{pages_end, end_of, has_page, same_span}
 use Rattle.space_model.specs.Part.{exchanged, begins_at, is_unused, is_flight_at, taken_out}
 use Rattle.space_model.specs.Region.{address_of, houses, inserted, is_held_by, starts_at}
 use Rattle.space_model.specs.Stepped.{Stepped, stays, replaced, whole_at, low_piece, high_piece, joined, begins_either, found_passes, has_flight, is_yes_or_no}
 use Rattle.space_model.specs.Clients.{is_in, with_client, without_client}
+use Rattle.space_model.specs.declared.asks.Answer.TheVariants as answers
 
 -- whether the class is large
 abbrev pub is_large_class : ℕ → Bool
@@ -80,7 +81,7 @@ widened_at space class home high = stays space Noted
 abbrev pub after_join : Space → ℕ → ℕ → Ask → Answer → Stepped
 after_join space c class (Merge low high) Done =
     widened_at space class (large_home space c (address_of low.first)) (find (is_flight_at c high) space.parts)
-after_join space c class (Merge low high) Refuses = whole_at space (find (is_flight_at c high) space.parts)
+after_join space c class (Merge low high) answers.Refused = whole_at space (find (is_flight_at c high) space.parts)
 after_join space c class ask answer = stays space Noted
 
 -- whether the answer to such a merge may be taken in: together the extents have the pages of the large class
@@ -119,7 +120,7 @@ trimmed_at space c left class (Some home) =
 abbrev pub trim_answered : Space → ℕ → ℕ → Ask → Answer → Stepped
 trim_answered space c class (Split span left) Done =
     trimmed_at space c left class (large_home space c (address_of span.first))
-trim_answered space c class (Split span left) Refuses = stays space Whole
+trim_answered space c class (Split span left) answers.Refused = stays space Whole
 trim_answered space c class ask answer = stays space Noted
 
 -- the client shrinks no region any more

@@ -4,7 +4,7 @@ use Rattle.std.specs.Bool.{beq}
 use Rattle.std.specs.Int.{is_power_of_two}
 use Rattle.std.specs.List.{list_any, list_all}
 use Rattle.std.specs.Option.{option_map, option_or}
-use Rattle.space_model.specs.Types.{Ask, Alloc, Commit, Split, Merge, Answer, Done, Refuses, Placed, Entry, Op, Look, CutDone, GrowDone, CommitDone, Land, Back, PutLook, MergeDone, Fill, Advance, PurgeTake, LazyDone, Offer, OfferDone, DecommitDone, ForcedDone, Publish, TakeOver, Reset, Destroy, DestroyTake, Counts, Set, Widen, JoinDone, Trim, TrimDone, Reply, Noted, Took, Grow, Cut, Refused, Bad, Grown, Next, Beside, Purge, Joined, Counted, Why, OffSpace, Unaligned, Meets, Part, Region, Span, ToRetained, Dirty, Flight, Space}
+use Rattle.space_model.specs.Types.{Ask, Alloc, Commit, Split, Merge, Answer, Done, Placed, Entry, Op, Look, CutDone, GrowDone, CommitDone, Land, Back, PutLook, MergeDone, Fill, Advance, PurgeTake, LazyDone, Offer, OfferDone, DecommitDone, ForcedDone, Publish, TakeOver, Reset, Destroy, DestroyTake, Counts, Set, Widen, JoinDone, Trim, TrimDone, Reply, Noted, Took, Grow, Cut, Refused, Bad, Grown, Next, Beside, Purge, Joined, Counted, Why, OffSpace, Unaligned, Meets, Part, Region, Span, Dirty, Flight, Space}
 use Rattle.space_model.specs.Span.{pages_end, max_series, end_of, chunk_span, chunks_of, chunks_in, meets, run_start}
 pub use Rattle.space_model.specs.Part.{placed, next_flight}
 use Rattle.space_model.specs.Part.{exchanged, begins_at, is_active, is_listed, is_flight_at, rest_of, listed, put_down, taken_out, turned, turned_in_order}
@@ -23,6 +23,8 @@ use Rattle.space_model.specs.Holding.{after_publish, after_take_over}
 use Rattle.space_model.specs.Ending.{after_reset, after_destroy, reset_stands, after_destroy_take}
 use Rattle.space_model.specs.Settings.{after_set, setting_stands}
 use Rattle.space_model.specs.Resizing.{after_widen, widen_stands, after_join, join_stands, after_trim, trim_stands, after_trim_done, trim_done_stands}
+use Rattle.space_model.specs.declared.asks.Answer.TheVariants as answers
+use Rattle.space_model.specs.declared.parts.Rest.TheVariants as rests
 
 -- ---- Look
 
@@ -57,7 +59,7 @@ cut_at space keep_low left (Some p) =
 -- takes in the answer to a split
 abbrev pub after_cut : Space → ℕ → Bool → Ask → Answer → Stepped
 after_cut space c keep_low (Split span left) Done = cut_at space keep_low left (find (is_flight_at c span) space.parts)
-after_cut space c keep_low (Split span left) Refuses = whole_at space (find (is_flight_at c span) space.parts)
+after_cut space c keep_low (Split span left) answers.Refused = whole_at space (find (is_flight_at c span) space.parts)
 after_cut space c keep_low ask answer = stays space Noted
 
 -- ---- GrowDone
@@ -84,7 +86,7 @@ why_not found align parts s =
 
 -- a new extent, in flight to the retained ones
 abbrev pub new_part : ℕ → Span → Bool → Part
-new_part c s committed = record { span = s; state = Flight c ToRetained; committed = committed }
+new_part c s committed = record { span = s; state = Flight c rests.Retained; committed = committed }
 
 -- the growth after one by a span: twice that, if it isn't larger already, within the most that there may be
 abbrev pub grow_after : ℕ → Span → ℕ
@@ -100,7 +102,7 @@ grow_unless space c s committed None = record {
 
 -- takes in the answer to an alloc
 abbrev pub after_grow : Space → ℕ → Option ℕ → Ask → Answer → Stepped
-after_grow space c found (Alloc commit at pages align) Refuses = stays space Refused
+after_grow space c found (Alloc commit at pages align) answers.Refused = stays space Refused
 after_grow space c found (Alloc commit at pages align) (Placed committed zeroed first) =
     let s : Span = record { first = first; pages = pages } in
     grow_unless space c s committed (why_not found align space.parts s)
@@ -116,7 +118,7 @@ commit_at space (Some p) = replaced space p (record p { committed = true } ∷ [
 -- takes in the answer to a commit
 abbrev pub after_commit : Space → ℕ → Ask → Answer → Stepped
 after_commit space c (Commit span) Done = commit_at space (find (is_flight_at c span) space.parts)
-after_commit space c (Commit span) Refuses = whole_at space (find (is_flight_at c span) space.parts)
+after_commit space c (Commit span) answers.Refused = whole_at space (find (is_flight_at c span) space.parts)
 after_commit space c ask answer = stays space Noted
 
 -- ---- Back
@@ -209,7 +211,7 @@ apart_at space own_low low high = stays space Noted
 abbrev pub after_merge : Space → ℕ → Bool → Ask → Answer → Stepped
 after_merge space c own_low (Merge low high) Done =
     join_at space (find (is_flight_at c low) space.parts) (find (is_flight_at c high) space.parts)
-after_merge space c own_low (Merge low high) Refuses =
+after_merge space c own_low (Merge low high) answers.Refused =
     apart_at space own_low (find (is_flight_at c low) space.parts) (find (is_flight_at c high) space.parts)
 after_merge space c own_low ask answer = stays space Noted
 
@@ -258,7 +260,7 @@ reply_to space entry = (step_of space entry.client entry.op).reply
 -- whether the answer is one to an alloc
 abbrev pub is_range_or_no : Answer → Bool
 is_range_or_no Done = false
-is_range_or_no Refuses = true
+is_range_or_no answers.Refused = true
 is_range_or_no (Placed committed zeroed first) = true
 
 -- whether the client allocates from the arena, or holds a region of it

@@ -3,7 +3,6 @@ pub use Rattle.space_model.specs.declared.parts.Offered.{Offered}
 pub use Rattle.space_model.specs.declared.parts.Part.{Part}
 pub use Rattle.space_model.specs.declared.parts.Region.{Region}
 pub use Rattle.space_model.specs.declared.parts.Rest.{Rest}
-pub use Rattle.space_model.specs.declared.parts.Rest.TheVariants.{Dirty as ToDirty, Muzzy as ToMuzzy, Retained as ToRetained}
 pub use Rattle.space_model.specs.declared.parts.Span.{Span}
 pub use Rattle.space_model.specs.declared.parts.State.{State}
 pub use Rattle.space_model.specs.declared.parts.State.TheVariants.{Flight, Active, Dirty, Muzzy, Retained}
@@ -13,7 +12,7 @@ pub use Rattle.space_model.specs.declared.spaces.Life.TheVariants.{Live, Absent,
 pub use Rattle.space_model.specs.declared.spaces.Pace.{Pace}
 pub use Rattle.space_model.specs.declared.spaces.Space.{Space}
 pub use Rattle.space_model.specs.declared.asks.Answer.{Answer}
-pub use Rattle.space_model.specs.declared.asks.Answer.TheVariants.{Done, Refused as Refuses, Placed}
+pub use Rattle.space_model.specs.declared.asks.Answer.TheVariants.{Done, Placed}
 pub use Rattle.space_model.specs.declared.asks.Ask.{Ask}
 pub use Rattle.space_model.specs.declared.asks.Ask.TheVariants.{Split, Merge, Dalloc, Decommit, PurgeLazy, PurgeForced, Alloc, Commit}
 pub use Rattle.space_model.specs.declared.asks.Heard.{Heard}

@@ -1,5 +1,6 @@
-use Rattle.part_book.proofs.Words.{◌≡◌, ◌+◌, true, not, eqb, filter, length, ap, arith, Rest, ToDirty, ToMuzzy, ToRetained, is_listed, AgeList, CanUnlist, LosesRow, Row, kept_length}
+use Rattle.part_book.proofs.Words.{◌≡◌, ◌+◌, true, not, eqb, filter, length, ap, arith, Rest, is_listed, AgeList, CanUnlist, LosesRow, Row, kept_length}
 use Rattle.part_book.proofs.changes.unlist.Goals as goal
+use Rattle.space_model.specs.declared.Rest.TheVariants as rests
 
 -- a list loses an extent that it has
 lost : (rest : Rest) (old new : AgeList) (row : Row) → CanUnlist rest old row → is_listed rest row.part.state ≡ true → new.ages.numbers ≡ filter (λ n. not (eqb n row.number)) old.ages.numbers →
@@ -16,10 +17,10 @@ lost rest old new row can listed numbers pages places =
     }
 
 pub returns-in-Dirty-clause-dirty : goal.returns-in-Dirty-clause-dirty
-returns-in-Dirty-clause-dirty c = lost ToDirty _ _ _ c.requires.dirty (ap (is_listed ToDirty) c.in-Dirty.is) c.remove.ensures.numbers c.remove.ensures.pages c.remove.ensures.places
+returns-in-Dirty-clause-dirty c = lost rests.Dirty _ _ _ c.requires.dirty (ap (is_listed rests.Dirty) c.in-Dirty.is) c.remove.ensures.numbers c.remove.ensures.pages c.remove.ensures.places
 
 pub returns-in-Muzzy-clause-muzzy : goal.returns-in-Muzzy-clause-muzzy
-returns-in-Muzzy-clause-muzzy c = lost ToMuzzy _ _ _ c.requires.muzzy (ap (is_listed ToMuzzy) c.in-Muzzy.is) c.remove-in-Muzzy.ensures.numbers c.remove-in-Muzzy.ensures.pages c.remove-in-Muzzy.ensures.places
+returns-in-Muzzy-clause-muzzy c = lost rests.Muzzy _ _ _ c.requires.muzzy (ap (is_listed rests.Muzzy) c.in-Muzzy.is) c.remove-in-Muzzy.ensures.numbers c.remove-in-Muzzy.ensures.pages c.remove-in-Muzzy.ensures.places
 
 pub returns-in-Retained-clause-retained : goal.returns-in-Retained-clause-retained
-returns-in-Retained-clause-retained c = lost ToRetained _ _ _ c.requires.retained (ap (is_listed ToRetained) c.in-Retained.is) c.remove-in-Retained.ensures.numbers c.remove-in-Retained.ensures.pages c.remove-in-Retained.ensures.places
+returns-in-Retained-clause-retained c = lost rests.Retained _ _ _ c.requires.retained (ap (is_listed rests.Retained) c.in-Retained.is) c.remove-in-Retained.ensures.numbers c.remove-in-Retained.ensures.pages c.remove-in-Retained.ensures.places
