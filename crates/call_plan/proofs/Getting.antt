@@ -1,10 +1,10 @@
 -- What the turns of a call leave that gets an extent: what it knows where it goes on.
 use Rattle.call_plan.proofs.Words.{min, ◌≡◌, ◌≢◌, ℕ, ◌+◌, ◌-◌, ◌<◌, ◌≤◌, Bool, true, false, not, cond, List, [], ◌∷◌, ◌++◌, Option, None, Some, refl, sym, ◌∙◌, ap, subst, arith, filter, find, count_ones, is_power_of_two, nat_tests, cond_both, leb-true, eqb-true, ones_le_self, filter-append, pages_bounds, run_start, holds_run, exchanged, begins_at, is_flight, is_flight_at, put_down, taken_out, listed, rest_of, fit, Stepped, whole_at, after_cut, cut_at, kept_piece, other_piece, after_look, look_at, after_grow, grow_unless, why_not, new_part, after_commit, commit_at, put_down-nobody, both_true, fit_best, itself, Wish, Looking, Landing, Next, Alloc, Commit, Split, Answer, Placed, Done, Reply, Noted, Cut, Whole, Bad, Grown, Space, Part, Span, Why, mine, same_span, end_of, land_at, AnswersTo, commit, got, grant, grow, trim, skip_to, turn_replied, IsWish, Idle, Alone, Gets, is_served, in_flight, Keeps}
 use Rattle.space_model.specs.Stepped.{is_live}
-use Rattle.call_plan.specs.Words.{Refuse as Refused}
 use Rattle.call_plan.proofs.Lists.{passes_alone}
 use Rattle.call_plan.proofs.Own.{flight_found, flights_exchanged}
 use Rattle.space_model.specs.declared.Answer.TheVariants as answers
+use Rattle.space_model.specs.declared.Reply.TheVariants as replies
 
 -- a wish has a page at least
 pub wish_some : (wish : Wish) → IsWish wish → 0 < wish.pages
@@ -170,7 +170,7 @@ grown_onto c s f stage bound span b None idle on_bad on_grown =
     })
 
 pub alloc_onto : (c : ℕ) (s : Space) (f : Reply → Next) (stage bound : ℕ) (found place : Option ℕ) (pages align : ℕ) (answer : Answer) → Idle (mine c s) →
-    answer ≢ Done → AnyAfter c s (λ t. Idle (mine c t) → Keeps c t stage bound (f Refused)) →
+    answer ≢ Done → AnyAfter c s (λ t. Idle (mine c t) → Keeps c t stage bound (f replies.Refused)) →
     AnyAfter c s (λ t. Idle (mine c t) → (why : Why) → Keeps c t stage bound (f (Bad why))) →
     AnyAfter c s (λ t. (span : Span) (b : Bool) → span.pages ≡ pages → Alone (mine c t) span b → Keeps c t stage bound (f (Grown span b))) →
     Onto c f stage bound (after_grow s c found (Alloc false place pages align) answer)

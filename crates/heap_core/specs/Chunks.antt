@@ -1,6 +1,7 @@
 -- Which arenas own a chunk, and the chunk that speaks against an answer.
 use Rattle.std.specs.Prelude.{◌≡◌, ℕ, ◌%◌, ◌==◌, ◌&&◌, Bool, true, List, Option, None, find, slice_index_or, slice_set, if◌then◌else◌}
-use Rattle.heap_core.specs.Words.{list_any, GrowDone, OfferDone, absent_space, chunk_span, chunks_of, meets, is_in_space, Ask, Alloc, Dalloc, Answer, Placed, Refuses as Refused, Op, Space, Span}
+use Rattle.heap_core.specs.Words.{list_any, GrowDone, OfferDone, absent_space, chunk_span, chunks_of, meets, is_in_space, Ask, Alloc, Dalloc, Answer, Placed, Op, Space, Span}
+use Rattle.space_model.specs.declared.Answer.TheVariants as answers
 
 -- the space of the arena with an index; where there is none, it is that of an index without an arena
 abbrev pub space_at : List Space → ℕ → Space
@@ -31,7 +32,7 @@ met_by_alloc spaces ask answer = None
 
 -- the chunk that speaks against a dalloc that was refused
 abbrev pub met_by_dalloc : List Space → Ask → Answer → Option ℕ
-met_by_dalloc spaces (Dalloc span committed) Refused = met_in spaces span
+met_by_dalloc spaces (Dalloc span committed) answers.Refused = met_in spaces span
 met_by_dalloc spaces ask answer = None
 
 -- the operation of an arena as it enters its journal: an alloc is told the least chunk that has an owner, and a dalloc that
