@@ -1,7 +1,7 @@
 -- An ask that a call needs, and want of memory to name what goes back.
 use Rattle.heap_runs.proofs.Words.{◌≡◌, ℕ, ◌+◌, true, false, IsTrue, List, [], ◌∷◌, Option, Some, refl, sym, ◌∙◌, ap, subst, append-nil, arc_value, Record, Point, Go, Ask, Op, AskFacts, DeskFacts, CallFacts, moment_at, named_call, want, WantTurn, WantAsk, is_marked, AnswersTo, All-cons, All-nil, slice_index, slice_set, All, capped, kind_of, IsByPlanOf, plan_of_kind, SharedShelf, TableId, asks-sit, starves-sit, Asked, Lacked, HaveNext, IsWanted, IsWantedAt, HasBox, IsAsPlanned, asks_next, asks_there, IsGiving, NeedIs, NeedsAsk, box_asked, box_lacked, known, log_of, IsCtxOf, Stands, Ctx, SharedHeap, by_box, counted_by, one_more, if◌then◌else◌}
 use Rattle.heap_runs.proofs.Leaving.{Leaves}
-use Rattle.heap_runs.proofs.GrowingExactly.{ask_needed, giving_at, sits_of}
+use Rattle.heap_runs.proofs.Needing.{ask_needed, giving_at, sits_of}
 
 module _ (shelf : TableId) (heap : SharedHeap) (ctx : Ctx) (is : IsCtxOf shelf heap ctx) (open_call : CallFacts) (stands : Stands heap ctx open_call) where
   abbrev rs : List Record

@@ -1,6 +1,6 @@
 -- How a call begins.
 use Rattle.heap_runs.proofs.Words.{◌≡◌, ℕ, ◌<◌, false, List, Option, None, Some, refl, sym, ◌∙◌, ap, subst, Record, Request, Answered, Point, Next, Go, Ends, Stage, DeskFacts, CallFacts, HasRoomToHold, Moment, moment_at, named_call, begin, begin_turns, ended_by, asks_next, begin-is_call, begins_named, meant, ready, IsPointOrEnd, IsInRange, started, AreArenas, Comes, IsAtRest, starts-sit}
-use Rattle.heap_runs.proofs.GrowingExactly.{ended_is, rests_of}
+use Rattle.heap_runs.proofs.Needing.{ended_is, rests_of}
 
 -- where a call goes on, it waits at a point
 goes_on : (next : Next) → IsPointOrEnd next → ended_by next ≡ None → (point : Point) × (next ≡ Go point)

@@ -4,7 +4,7 @@ pub mod Knowing
 pub mod Passing
 pub mod Turning
 pub mod Leaving
-pub mod GrowingExactly
+pub mod Needing
 pub mod Making
 pub mod Asking
 pub mod Leading

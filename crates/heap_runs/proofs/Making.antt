@@ -1,7 +1,7 @@
 -- A turn that a call needs, of one of its context's passes.
 use Rattle.heap_runs.proofs.Words.{◌≡◌, ℕ, ◌<◌, true, false, Bool, List, Option, Some, Result, Err, IsOk, length, refl, sym, ◌∙◌, ap, subst, arith, get_or, slice_set, arc_value, Record, record_at, room_in, mine, mine_in, room_of, opens, Replied, Starved, Point, Go, AskFacts, DeskFacts, CallFacts, moment_at, named_call, after, want, WantTurn, is_marked, Op, seat_of, ChunkTable, Lock, Way, replay_turns, first, number, seen, spare, IsPassOf, Turned, Doing, Told, Facts, Logs, MayStand, after_entry, owned_by, AreArenas, Comes, Sits, starves-sit, IsWanted, IsWantedAt, Lacked, Took, known, seen_at, state_of, turns_in, NeedIs, NeedsTurn, NeededTurn, heard_next, HasBox, box_after, box_lacked, append-nil, Ctx, SharedHeap, IsCtxOf, Stands, TableId}
 use Rattle.heap_runs.proofs.Knowing.{known_all, known_at, same_arenas, same_seat}
-use Rattle.heap_runs.proofs.GrowingExactly.{may_stand, named_hears, sits_of, turn_needed}
+use Rattle.heap_runs.proofs.Needing.{may_stand, named_hears, sits_of, turn_needed}
 use Rattle.heap_runs.proofs.Leaving.{Leaves}
 use Rattle.heap_runs.proofs.Passing.{IsWayOf, its_pass, knows, left_so, lock_low, logged, own_met, pass_low, seen_else, seen_same, turns_turned, way_of, ways_turned}
 use Rattle.heap_runs.proofs.Turning.{turn_leaves, turn_met}

@@ -1,7 +1,7 @@
 use Rattle.heap_runs.proofs.Words.{◌∙◌, inl, [], None, false, refl, sym, subst, append-nil, arc_value, All-nil, IsAsPlanned, IsAtRest, Led, Moment, begin, known, seen_at}
 use Rattle.heap_runs.specs.Meets.{AllMeet}
 use Rattle.heap_runs.proofs.Calling.{began, stands_there, stays_at}
-use Rattle.heap_runs.proofs.GrowingExactly.{ended_is}
+use Rattle.heap_runs.proofs.Needing.{ended_is}
 use Rattle.heap_runs.proofs.heaps.SharedHeap.call.Goals as goal
 
 pub returns-in-Err-clause-may : goal.returns-in-Err-clause-may

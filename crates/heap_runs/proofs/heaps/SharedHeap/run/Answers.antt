@@ -1,6 +1,6 @@
 use Rattle.heap_runs.proofs.Words.{[], ◌∙◌, refl, arith, arc_value, known, moment_at, named_call, seen_at}
 use Rattle.heap_runs.proofs.Leading.{gains_none, runs_more}
-use Rattle.heap_runs.proofs.GrowingExactly.{ended_is, named_ends, rests_of}
+use Rattle.heap_runs.proofs.Needing.{ended_is, named_ends, rests_of}
 use Rattle.heap_runs.proofs.heaps.SharedHeap.run.Goals as goal
 
 pub loop-init : goal.loop-init

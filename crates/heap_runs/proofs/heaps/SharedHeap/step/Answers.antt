@@ -1,5 +1,5 @@
 use Rattle.heap_runs.proofs.Words.{◌∙◌, sym, subst, CallFacts, HasBox, Moment, NeedIs, NeedsAsk, NeedsNothing, NeedsTurn, Steps, moment_at, named_call}
-use Rattle.heap_runs.proofs.GrowingExactly.{ask_at_own, done_need, named_ends, named_moment, stands_named, starved_need}
+use Rattle.heap_runs.proofs.Needing.{ask_at_own, done_need, named_ends, named_moment, stands_named, starved_need}
 use Rattle.heap_runs.proofs.heaps.SharedHeap.step.Goals as goal
 
 pub turn-requires-clause-stands : goal.turn-requires-clause-stands
